@@ -139,12 +139,12 @@ contradiction() {
 
 # What was asked for, and names that are no HTML.
 words() {
-    name='a<b>&"c.csv'
+    name="a<b>&\"c's.csv"
     page_of "C 00 1D 1D $ack C 44 14 00 00 01 00 59 $ack $remote" --hands --rate 29.97df
     name=night.csv
-    has 'words and names' '<p class="file">a&lt;b&gt;&amp;&quot;c.csv</p>' '<title>1 break: a&lt;b&gt;&amp;&quot;c.csv</title>' \
+    has 'words and names' "<p class=\"file\">a&lt;b&gt;&amp;&quot;c's.csv</p>" "<title>1 break: a&lt;b&gt;&amp;&quot;c's.csv</title>" \
         '29.97 frames a second, drop frame, somebody may have touched the panel, no deck sheet <code>--all --hands --rate 29.97df</code>' \
-        "<code>ninecheck page --hands --rate 29.97df 'a&lt;b&gt;&amp;&quot;c.csv'</code>" 'P6 invalid time in a command' '<b>Panel</b>' \
+        "<code>ninecheck page --hands --rate 29.97df 'a&lt;b&gt;&amp;&quot;c'\\''s.csv'</code>" 'P6 invalid time in a command' '<b>Panel</b>' \
         '(Local: yes, Panel: on)'
     printf '[names]\n"20 40" = "ALIGN"\n' > "$work/captures/<deck>.toml"
     page_of "$remote C 20 40 60 $ack" --deck '<deck>.toml'

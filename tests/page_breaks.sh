@@ -36,9 +36,9 @@ make_page() {
     local setting settings=()
     for setting in "$@"; do settings+=(-v "$setting"); done
     # shellcheck disable=SC2086
-    $awk -v capture="$capture" -v why="$work/why" -v totals="$(tail -n 1 "$work/explained")" -v file=night.csv -v rate=25 -v hands=no \
-        -v first_us="$(sed -n '2s/,.*//p' "$capture")" -v last_us="$(tail -n 1 "$capture" | sed 's/,.*//')" "${settings[@]}" $page \
-        < "$work/explained" > "$work/page" 2> "$work/err"
+    $awk -v capture="$capture" -v why="$work/why" -v totals="$(tail -n 1 "$work/explained")" -v file=night.csv \
+        -v file_word=night.csv -v rate=25 -v hands=no -v first_us="$(sed -n '2s/,.*//p' "$capture")" \
+        -v last_us="$(tail -n 1 "$capture" | sed 's/,.*//')" "${settings[@]}" $page < "$work/explained" > "$work/page" 2> "$work/err"
     status=$?
     sed -n '/^<section id="breaks">$/,/^<\/section>$/p' "$work/page" > "$work/out"
 }
@@ -267,7 +267,7 @@ limits() {
     has_pictures '120 breaks' 10
     same 'the pictures that are not there' "$(paragraphs | tail -n 1)" \
         'The first 100 breaks have a picture. ninecheck picture --at RECORD night.csv draws any other.'
-    section "$(repeated 1003 "$late")" 'words=--rate 29.97df' "file=the deck's <night>.csv"
+    section "$(repeated 1003 "$late")" 'words=--rate 29.97df' "file=the deck's <night>.csv" "file_word='the deck'\\\\''s <night>.csv'"
     judge "$awk: 1,003 breaks" [ "$(summaries | wc -l) $(grep -c '^<pre' "$work/out")" = '1000 1000' ]
     judge "$awk: 1,003 breaks, the pictures" [ "$(grep -c '^<svg' "$work/out")" = 100 ]
     judge "$awk: the table counts them all" grep -qF '<td class="count">1,003</td>' "$work/out"

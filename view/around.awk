@@ -18,8 +18,8 @@ BEGIN {
 # first of the part. The last two are the wire and the time of the record before it.
 function begins_part(number, on, us, on_before, us_before) {
     if (on != "C" || number < broke_at || number == 1) return 0
-    if (number == broke_at) return broke_by ~ /^(L2|P3|P4|B3)$/
-    return on_before == "D" || us - us_before > time_limit["B3"]
+    if (number == broke_at) return ends_before(broke_by)
+    return may_begin(on, on_before, us - us_before)
 }
 
 # The block that a record belongs to: the open one on its wire, or a new one. Each wire is read by itself, since where a rule of

@@ -2,10 +2,6 @@
 # longer is. An explanation's exchanges are given in order: of each count_known() first, and then changed_fields().
 
 BEGIN {
-    listed_query = "^(STATUS|CURRENT TIME|(AUDIO )?(IN|OUT) DATA) SENSE$|^DEVICE TYPE$"
-    listed_command = "^(STOP|PLAY|RECORD|STANDBY O(N|FF)|EJECT|FAST FWD|REWIND|(JOG|VAR|SHUTTLE) (FWD|REV)|PREROLL|" \
-        "CUE UP WITH DATA|SYNC PLAY|(AUDIO )?(IN|OUT) (ENTRY|DATA PRESET|SHIFT [+-]|FLAG RESET|RECALL)|LOCAL (EN|DIS)ABLE|" \
-        "EDIT PRESET|PREROLL PRESET|TIMER MODE SELECT|AUTO MODE O(N|FF))$"
     # The fields that only a command, a query's answer or a hand changes. The mechanics change what is shown at any time.
     is_kept["in"] = is_kept["out"] = is_kept["ain"] = is_kept["aout"] = is_kept["local"] = 1
 }
@@ -13,9 +9,15 @@ BEGIN {
 # Whether the exchange only asks. Of the commands that are not listed those of group 6 do, which a report with bytes tells also of
 # one that a sheet names, and those that the deck answers with data.
 function is_query() {
-    if (!(command in only_asks)) only_asks[command] = command ~ listed_query ? 1 : command ~ listed_command ? 0 : ""
+    if (!(command in only_asks)) only_asks[command] = asks_by_name(command)
     if (only_asks[command] != "") return only_asks[command]
     return (with_bytes ? given["command_bytes"] : command) ~ /^6[0-9A-F] / || reply !~ /^(ACK|NAK)/
+}
+
+# Whether the listed command of this name only asks: the senses, which are group 6, and DEVICE TYPE. Nothing where none is listed.
+function asks_by_name(name,    head) {
+    for (head in name_of_head) if (name_of_head[head] == name && head ~ /^C /) return head ~ /^C (6|00 11)/
+    return ""
 }
 
 # Nothing is known of the deck at the beginning of a part.

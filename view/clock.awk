@@ -7,9 +7,9 @@
 #
 # With --seconds (form=seconds) it is `at 52247.440040:`. It takes any text: what is rewritten is `at` with a whole number of up
 # to fifteen digits after it, in microseconds, up to a colon and a blank, a comma or the end of the line; and as a clock also the
-# seconds at the beginning of a line of view/digest.awk or view/motion.awk (`record 8, 1.002422 s: `). All else passes unchanged.
-# A clock counts from the capture's time 0, so its hours go on past 23: what convert/log.awk makes of a log with clocks begins
-# with the first line's day.
+# seconds at the beginning of a line of a digest or a motion (`record 8, 1.002422 s: `). All else passes unchanged. A clock counts
+# from the capture's time 0, so its hours go on past 23: what `ninecheck convert log` makes of a log with clocks begins with the
+# first line's day.
 #
 # Nothing of a text is refused, so each line is written as it is read, and not kept until the end as in the other views.
 

@@ -6,14 +6,12 @@
 # All delays are in microseconds, from the command's last record to the reply's first. Of n delays in order of size the
 # middle is the one at half of n, and the 99th of a hundred the one at 99 hundredths of n, both rounded up and counted
 # from 1. A row of the histogram has the delays from its first number to its second, and says how many they are. The
-# longest bar has fifty marks, each other as many in proportion, rounded up. Where the verdict is L1, with
-# -v capture=FILE the late reply stands below the limit: its delay, its first record, and by how much it is late. The verdict
-# is the last line.
+# longest bar has fifty marks, each other as many in proportion, rounded up. Where the verdict is L1, the late reply stands below
+# the limit, as the capture has it: its delay, its first record, and by how much it is late. The verdict is the last line.
 #
 # Of `explain --all` the replies of all parts are counted, and the late ones stand below the limit: a hundred of them, and the
 # number of the others. The exchange of a late reply has its delay, so it is counted in the table with the others, and only a late
 # reply that has no exchange, since it is not whole or breaks another rule, is taken from the capture. The totals are the last line.
-# For a report made with --sync, give -v sync=1 as well as the capture.
 
 BEGIN {
     view = "ninecheck delays"

@@ -31,7 +31,7 @@ function read_explanation() {
     }
 }
 
-# The capture ends where the report does. With -v sync=1 a yes leaves out the records that were passed over, so the last exchange
+# The capture ends where the report does. With --sync (`sync`) a yes leaves out the records that were passed over, so the last exchange
 # tells where the capture ends; without an exchange the capture has at least as many records as the yes counts.
 function check_end(who,    whole, is_least) {
     whole = records + 0

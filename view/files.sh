@@ -3,7 +3,7 @@
 # view_files VIEW: they stand in the order in which awk takes them, the view's own first, and then what it shares with others.
 view_files() {
     case $1 in
-        digest) echo 'digest changes explanation capture times refuse report' ;;
+        digest) echo 'digest changes names explanation capture times refuse report' ;;
         touches) echo 'touches explanation capture times refuse report' ;;
         motion) echo 'motion transport track explanation capture times refuse report' ;;
         delays) echo 'delays delay_counts explanation capture refuse report' ;;

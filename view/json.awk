@@ -1,6 +1,6 @@
 # Makes a JSON object of each line that `check`, `explain`, `run` and `why` write, each on a line of its own.
 #
-#     ./ninecheck explain capture.csv | awk -f view/json.awk
+#     ninecheck json explain capture.csv
 #
 #     {"line":"exchange","record":18,"command":"IN DATA PRESET","reply":"ACK","delay_us":400,"goal":"unknown",
 #      "shown":"unknown","in":"10:00:00:00","out":"unknown","local":"no","ain":"unknown","aout":"unknown"}

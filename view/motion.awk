@@ -17,8 +17,7 @@
 # counted the shorter way round the day from each answer to the next, and as many as a second has are 1.00 of real time; where
 # the time runs back both are below 0.
 #
-# The times are those of 25 frames a second. Of a report with --rate the same rate is given here: -v rate=24, -v rate=30 or
-# -v rate=29.97df. For a report made with --sync, give -v sync=1.
+# The times are those of 25 frames a second, or of `rate` (--rate).
 #
 # "Worth looking at" is a mode that no status shows, and what holds from one status to another, with the same mode in all
 # between and no command that asks for another mode or way: a time that stands still for a second or more where PLAY or REC is
@@ -97,7 +96,7 @@ function forget_bytes() {
 }
 
 # Reads on up to this record of the deck's wire. `asked_at` is the time of the command's last byte. Where a late reply is the
-# verdict, the exchanges before it may have no lines: `check` writes none. With -v sync=1 records may be passed over before the
+# verdict, the exchanges before it may have no lines: `check` writes none. With --sync (`sync`) records may be passed over before the
 # first exchange, which then begins with the first record that may begin a command.
 function read_to(last,    digits, before, wire_before) {
     for (; next_record <= last; next_record++) {
@@ -105,7 +104,7 @@ function read_to(last,    digits, before, wire_before) {
         before = now
         now = time_of(next_record, next_record == last ? "D" : asked_bytes == 0 && !passes_over() ? "C" : "CD") + 0
         digits = toupper(substr(row, length(row) - 1))
-        if (passes_over() && may_begin(wire_before, now - before)) {
+        if (passes_over() && may_begin(wire_of_row(), wire_before, now - before)) {
             forget_bytes()
             is_synced = 1
         }
@@ -133,21 +132,15 @@ function first_record(    number, wire, stamp, wire_before, stamp_before, begins
     broke_at = ""
     stamp = time_of(number, "CD")
     wire = wire_of_row()
-    begins = wire == "C" && broke_by ~ /^(L2|P3|P4|B3)$/
+    begins = wire == "C" && ends_before(broke_by)
     while (!begins) {
         wire_before = wire
         stamp_before = stamp
         stamp = time_of(++number, "CD")
         wire = wire_of_row()
-        begins = may_begin(wire_before, stamp - stamp_before)
+        begins = may_begin(wire, wire_before, stamp - stamp_before)
     }
     return number
-}
-
-# Whether the row that was read last may begin a command: it comes on the controller's wire, and after a row of the deck or after
-# the byte gap. The first row of a capture never may.
-function may_begin(wire_before, gap) {
-    return wire_of_row() == "C" && (wire_before == "D" || wire_before == "C" && gap > 10287)
 }
 
 function wire_of_row() {

@@ -1,14 +1,17 @@
 # To be sourced by words.sh: what a page of a whole session needs beside the explanation. `why` is asked first, since the totals,
 # with which the page begins, are its last line.
 
-# The words as a shell takes them again.
-words=''
-for option; do
-    case $option in
-        '' | *[!A-Za-z0-9_.,/+:=@%-]*) option="'$(printf '%s' "$option" | sed "s/'/'\\\\''/g")'" ;;
+# as_word TEXT: as a shell takes it again.
+as_word() {
+    case $1 in
+        '' | *[!A-Za-z0-9_.,/+:=@%-]*) printf "'%s'" "$(printf '%s' "$1" | sed "s/'/'\\\\''/g")" ;;
+        *) printf '%s' "$1" ;;
     esac
-    words=$words${words:+ }$option
-done
+}
+
+words=''
+for option; do words=$words${words:+ }$(as_word "$option"); done
+file_word=$([ "$files" = 0 ] || as_word "$file")
 
 ask why --all "$@" -- "$judged" > "$held/why" 2> "$held/said"
 status=$?
@@ -33,6 +36,6 @@ version=$(ask --version 2> /dev/null | sed 's/^ninecheck //')
 # make_page: of the explanation on standard input.
 make_page() {
     run_view page "capture=$capture" "why=$held/why" "totals=$(tail -n 1 "$held/why")" "first_us=$first_us" "last_us=$last_us" \
-        "file=${file:-standard input}" "capture_bytes=$capture_bytes" "checksum=$checksum" "rate=${own_rate:-25}" \
-        "hands=${own_hands:-no}" "sync=$sync" "sheet=$own_deck" "words=$words" "version=$version"
+        "file=${file:-standard input}" "file_word=$file_word" "capture_bytes=$capture_bytes" "checksum=$checksum" \
+        "rate=${own_rate:-25}" "hands=${own_hands:-no}" "sync=$sync" "sheet=$own_deck" "words=$words" "version=$version"
 }

@@ -6,11 +6,9 @@
 # begins at its stamp and is as long as a byte lasts on the line, 287 microseconds. A bracket joins the bytes of a block
 # and has its name. The record that breaks the rule is a dark box with an arrow. Where the reason is one of time, the
 # time that passed stands over the limit, in the same measure. A longer silence is cut, with its length beside the cut.
-# -v width=N says how wide the picture may be, in pixels (1200); it is wider where what breaks the rule would not fit.
+# `width` (--width N) says how wide the picture may be, in pixels (1200); it is wider where what breaks the rule would not fit.
 #
-# For a report made with --sync, give -v sync=1 as well as the capture.
-#
-# Of a report of --all one break is drawn: the first, or with -v at=RECORD the one at this record. What stands before the part that
+# Of a report of --all one break is drawn: the first, or the one at the record `at` (--at RECORD). What stands before the part that
 # it breaks is not drawn. A late reply (L1) ends no part there: it is drawn whole, and what was judged after it is not pale.
 #
 # Of a no by M1 `why` names the replies that contradict one another. Then each of them has a row, with the command that it answers,

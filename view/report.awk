@@ -352,10 +352,12 @@ function read_no(    at, tells_why, is_second) {
         return
     }
     late_at = 0
-    # The record that breaks so may be the first of the next part.
-    if (reason ~ /^(L2|P3|P4|B3)$/) last_record--
+    if (ends_before(reason)) last_record--
     part_from = last_record
 }
+
+# Whether a part ends before the record that breaks by this reason, which may then be the first of the next part.
+function ends_before(by) { return by ~ /^(L2|P3|P4|B3)$/ }
 
 function read_breaks() {
     if ($0 !~ totals_form) refuse_line()

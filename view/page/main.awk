@@ -4,8 +4,9 @@
 #     ninecheck page capture.csv > page.html
 #
 # view/page.sh gives these: `capture`; `why`, the file with what `why --all` says; `totals`, its last line; `first_us` and
-# `last_us`, the times of the first record and the last; `file`, the capture as it was named; `capture_bytes` and `checksum`;
-# `rate`, `hands`, `sync` and `sheet`, what was asked for, and `words`, the words that asked; and `version`.
+# `last_us`, the times of the first record and the last; `file`, the capture as it was named, and `file_word`, its name as a shell
+# takes it, or nothing of standard input; `capture_bytes` and `checksum`; `rate`, `hands`, `sync` and `sheet`, what was asked for,
+# and `words`, the words that asked; and `version`.
 #
 # The totals stand before the pass, so that the bins are right from the beginning. Each row is read once, and nothing is kept that
 # grows with the capture but the distinct delays of late replies.
