@@ -1,6 +1,6 @@
 #!/usr/bin/env bash
-# Watches captures while they grow, with --line-buffered: each line is out before the next row comes. The last line is
-# 'N passed, M failed'.
+# Watches captures while they grow: with --line-buffered each line is out before the next row comes, and in any case the no of a
+# judging that ends at the first break. The last line is 'N passed, M failed'.
 set -u
 cd "$(dirname "$0")/.." || exit 1
 . tests/lib/judge.sh
@@ -41,6 +41,9 @@ ends_soon() {
     return 1
 }
 
+# A sense of IN that is answered with 00:00:00:00.
+lost='C 60 10 70 D 74 10 00 00 00 00 84'
+
 # Three exchanges; a second reply, which ends the part; then an exchange, and one with a late reply. Behind the number of rows stands
 # how the last line of `check`, `explain` and `why` begins, with --all, once they are there.
 capture_of "$remote $play $second_reply $preset C 20 01 21 +12000 $ack"
@@ -76,16 +79,42 @@ for verb in check explain why; do
     judge "$verb without --line-buffered, the same text" cmp "$work/out" "$work/want"
 done
 
-# To the first break.
-for verb in check explain why; do
-    begin $verb --line-buffered
-    grow 20
-    grow 21
-    wait $!
-    status=$?
-    exec 7>&-
-    judge "$verb ends at the first break" has_verdict 1 "$p1"
-done
+# To the first break: the no is told, and the program ends, before another row comes and while the capture may still grow.
+
+# ends_by_itself: within twenty seconds the program has ended; else it is ended.
+ends_by_itself() {
+    local tries
+    for ((tries = 0; tries < 400; tries++)); do
+        kill -0 $! 2> "$work/gone" || return 0
+        sleep 0.05
+    done
+    kill $!
+    return 1
+}
+
+# tells_no RECORDS ROW NO: of a capture of these records the no at this row is told once the row has come, by each verb, line by line
+# and not.
+tells_no() {
+    local words
+    capture_of "$1"
+    for words in check explain why run 'check --line-buffered' 'explain --line-buffered' 'why --line-buffered'; do
+        # shellcheck disable=SC2086
+        begin $words
+        grow $(($2 - 1))
+        sleep 0.1
+        judge "$words, before: $3" kill -0 $!
+        grow "$2"
+        judge "$words ends at: $3" ends_by_itself
+        wait $!
+        status=$?
+        judge "$words: $3" has_verdict 1 "$3"
+        exec 7>&-
+    done
+}
+tells_no "$second_reply" 7 'no at record 7: P1 reply without a command'
+tells_no "$remote C 20 01 22 $ack" 11 'no at record 11: B2 wrong sum'
+tells_no "$remote C 20 01 21 +12000 $ack" 12 'no at record 12: L1 late reply'
+tells_no "$remote $preset $lost" 28 'no at record 28: M1 no run remains'
 
 # The same text of each example, and the same status.
 other=

@@ -22,18 +22,12 @@ import textwrap
 # The parts: a title, and the functions by their crate and their name, with the type before that of a method; and those that are the same
 # at 25 frames a second, which must reach no more.
 PARTS = [
-    ("The verdict and the explanation", [("judge9", "judge_for")], [("judge9", "judge")]),
+    ("The verdict, and what is written", [("judge9", "judge_for"), ("judge9", "judge_parts_for")], [("judge9", "judge")]),
     (
         "A yes with its run",
         [("judge9", "judge_with_run_for"), ("deck9", "is_run_of"), ("report9", "write_run_for")],
         [("judge9", "judge_with_run"), ("deck9", "is_run"), ("report9", "write_run")],
     ),
-    (
-        "Why a no",
-        [("judge9", "judge_with_contradiction_for"), ("report9", "write_why_for")],
-        [("judge9", "judge_with_contradiction"), ("report9", "write_why")],
-    ),
-    ("The whole capture, part by part", [("judge9", "judge_parts_for")], [("judge9", "judge_parts")]),
     ("The program", [("program9", "run_program"), ("program9", "End::status"), ("program9", "Message::fmt")], []),
 ]
 PAGE = "docs/THEOREM.md"
@@ -42,6 +36,8 @@ MARK = "<!-- What follows is written by tests/reach.py --write. -->"
 HEADS = {"abbrev", "unfoldable", "pub", "record", "data", "private"}
 # Kinds of what is reached.
 DEFINITION, TYPE, LIBRARY = "definition", "type", "library"
+# What the functions at 25 frames a second may reach besides: the profile that they judge by.
+AT_25 = (DEFINITION, "Rattle.judge9.specs.Verdict", "at_25")
 
 
 def words(text):
@@ -125,7 +121,7 @@ class Sources:
 
     def __init__(self, kit_folder):
         self.crates = [it for it in sorted(os.listdir("crates")) if not it.endswith("_tests")]
-        self.specs, self.code, self.types = {}, {}, {}
+        self.specs, self.code, self.types, self.imported = {}, {}, {}, {}
         for crate in self.crates:
             self.read_specs(crate, f"crates/{crate}/specs")
             self.read_code(crate)
@@ -149,6 +145,8 @@ class Sources:
                 with open(f"{at}/{name}", encoding="utf-8") as file:
                     text = re.sub(r"//.*", "", file.read())
                 self.code[crate].append((f"{at}/{name}", text))
+                for found in re.finditer(r"^use (\w+)::([^;]*);", text, re.M):
+                    self.imported.update({(crate, it): found[1] for it in re.findall(r"\b[A-Z]\w*", found[2])})
                 declared = r"^(?:pub(?:\(crate\))? )?(struct|enum) (\w+)[^;{(]*(?:\{(.*?)^\}|\((.*?)\);)"
                 for found in re.finditer(declared, text, re.S | re.M):
                     # what has a model is seen by contracts as its value, and not by its fields
@@ -157,8 +155,9 @@ class Sources:
                     self.types[crate, found[2]] = fields_of(found[1], fields)
 
     def type_named(self, crate, name):
-        """The declared type of this name, of this crate before all others."""
-        return next(((TYPE, it, name) for it in [crate, *self.crates] if (it, name) in self.types), None)
+        """The declared type of this name: of this crate, of the one that it imports the name from, or of any other."""
+        first = [crate, self.imported.get((crate, name))]
+        return next(((TYPE, it, name) for it in [*first, *self.crates] if (it, name) in self.types), None)
 
     def target(self, path, name):
         """What a name of a module is, or None for what is not followed."""
@@ -319,16 +318,17 @@ def table_row(path, lines, says):
 def part_of_page(sources, order, title, functions, same, before):
     """The lines of a part, and all that is reached up to it. `before` is what the parts before it reach."""
     reached = sources.reached(functions)
-    more = sources.reached(same) - reached
-    if more:
+    more = sources.reached(same) - reached - before
+    if more - {AT_25}:
         sys.exit(f"{marked(it for _, it in same)} reach more: {more}")
+    reached |= more
     new = reached - before
     kinds = {kind: [it for it in new if it[0] == kind] for kind in (DEFINITION, TYPE, LIBRARY)}
     own = listed([f"`{name}` (`{sources.contract(crate, name)[2]}`)" for crate, name in functions])
     also = "also " if before else ""
     text = f"The contract of {own} {also}reaches these." if len(functions) == 1 else f"The contracts of {own} {also}reach these."
     if same:
-        text += f" At 25 frames a second {marked(it for _, it in same)} reach{'es' if len(same) == 1 else ''} no others."
+        text += f" At 25 frames a second {marked(it for _, it in same)} reach{'es' if len(same) == 1 else ''} no others{' but `at_25`' if more else ''}."
     types = [name for _, _, name in sorted(kinds[TYPE], key=lambda it: (order.index(it[1]), it[2]))]
     text += f" Declared by the code {'are' if len(types) > 1 else 'is'} {marked(types)}."
     rows = []

@@ -472,6 +472,26 @@ $work/no-capture.csv: No such file or directory"
     judge "$verb and two sheets" [ "$status" = 2 -a ! -s "$work/out" ]
 done
 
+# ---- The sheet is read before the capture is opened: nobody writes to this one, so whoever opens it waits.
+
+mkfifo "$work/unwritten"
+sheet torn '[forgets'
+# waits_for SECONDS WORDS...: runs the program on it for so long at most, after which the status is 124.
+waits_for() {
+    timeout "$1" "$program" "${@:2}" "$work/unwritten" > "$work/out" 2> "$work/err"
+    status=$?
+}
+for verb in check explain run why; do
+    waits_for 20 $verb --deck "$work/torn.toml"
+    judge "$verb and a sheet that is none, before the capture" is_text 3 '' "unreadable deck sheet
+$work/torn.toml: line 1: not TOML"
+    waits_for 20 $verb --deck "$work/none.toml"
+    judge "$verb and no such sheet, before the capture" is_text 4 '' "cannot open
+$work/none.toml: No such file or directory"
+done
+waits_for 1 check --deck "$work/ee.toml"
+judge 'with a sheet that is one it waits for the capture' [ "$status" = 124 -a ! -s "$work/out" ]
+
 # ---- The shipped sheet names each command as the profile's page does, with its replies and what is forgotten.
 judge 'the shipped sheet and the page say the same is forgotten' cmp -s \
     <(sed -n 's/^| `\([0-9A-F ]*\)` | [A-Z0-9 +/-]* | [a-z ]* | `"\([a-z]*\)"` |.*$/"\1" = "\2"/p' docs/PROFILE.md) \

@@ -1,10 +1,9 @@
 -- What a pairer answers, and what is inside it, after one more record.
 use Rattle.block9.proofs.Words.{IsAnswered, append_assoc, asked_on, asks, completed, completed_by, completes, IsOf, leaves_open}
-use Rattle.block9.proofs.Words.{answers_late, BeginsLate, Idle, InCommand, is_late, IsTail, Place}
+use Rattle.block9.proofs.Words.{answers_late, BeginsLate, Idle, InCommand, is_late, is_soon, IsTail, late_on, Place, Wire}
 use Rattle.block9.proofs.Words.{AfterCommand, Bool, InReply, IsOpenAfter, Open, place_at, place_on}
-use Rattle.block9.specs.Line.{reply_limit}
 use Rattle.block9.specs.Pairer.IsOpenAfter.{after_command as is_after_command, in_command as is_in_command, in_reply as is_in_reply, nothing as is_nothing}
-use Rattle.block9.proofs.Words.{IsWholeCommand, nat_lt, TellsLate, ◌-◌}
+use Rattle.block9.proofs.Words.{IsWholeCommand, TellsLate}
 use Rattle.block9.proofs.CutLemmas.{last_apart}
 use Rattle.block9.proofs.Words.{Deck, early_fault, next_of, to_come, ends_block, grown, last_fed, length_push, OpenBlock, refl, ◌<◌, ◌≢◌}
 use Rattle.block9.proofs.Words.{append-nil, ap, BeginsWith, Block, ◌↔◌, ◌∙◌, ◌+◌, length, length-append, block_len, inl, inr}
@@ -13,7 +12,7 @@ use Rattle.block9.proofs.Words.{IsCommand, IsExchange, IsTailWith, IsTurn, last_
 use Rattle.block9.proofs.Words.{place_of, Reason, Refuses, reply_fault, Some, Outcome, sum, sym, tail_after, Takes, true, ℕ, ◌%◌, ◌++◌, ◌∷◌, ◌≡◌, ◌≤◌}
 use Rattle.block9.proofs.LineLemmas.{block_len-append, whole_len, whole_long, whole_parts}
 use Rattle.block9.proofs.TailLemmas.{answered, in_reply_of, last_time-append, place_in_command, place_of_command}
-use Rattle.block9.proofs.StandsLemmas.{ends_by_left, stands_after, stands_push}
+use Rattle.block9.proofs.StandsLemmas.{ends_by_left, inside_not_late, stands_after, stands_push}
 use Rattle.block9.proofs.StepLemmas.{begun_now, closes, commands, held_tail, reply_now, tail_short, waits}
 use Rattle.block9.proofs.ReasonLemmas.{reason_broken, table_reason}
 use Rattle.block9.specs.declared.line_rules.LineRules.{LineRules}
@@ -171,13 +170,15 @@ module _ (rules : LineRules) where
   pub not_late : (t : List LineByte) (r : LineByte) → false ≡ is_late (place_of t) t r → ¬ BeginsLate rules t r
   not_late t r soon h =
       let late = h.late in
-      let in_time : false ≡ is_late AfterCommand t r = rw (place_of_command rules Controller t h.asked.0 h.asked.2.whole) at soon in grind (arith, nat_tests)
+      let in_time : false ≡ late_on AfterCommand Deck (is_soon t r) = rw (place_of_command rules Controller t h.asked.0 h.asked.2.whole, h.wire) at soon in grind (arith, nat_tests)
 
-  late_place : (p : Place) (t : List LineByte) (r : LineByte) → true ≡ is_late p t r → p ≡ AfterCommand
-  late_place AfterCommand t r late = refl
-  late_place Idle t r late = absurd (cc)
-  late_place InCommand t r late = absurd (cc)
-  late_place InReply t r late = absurd (cc)
+  late_place : (p : Place) (w : Wire) (soon : Bool) → true ≡ late_on p w soon → (p ≡ AfterCommand) × (w ≡ Deck) × (soon ≡ false)
+  late_place AfterCommand Deck true late = absurd (cc)
+  late_place AfterCommand Deck false late = (refl, refl, refl)
+  late_place AfterCommand Controller soon late = absurd (cc)
+  late_place Idle w soon late = absurd (cc)
+  late_place InCommand w soon late = absurd (cc)
+  late_place InReply w soon late = absurd (cc)
 
   deck_turn : (b : OpenBlock) (first : Bool) → place_at b ≡ place_on Deck first → b.wire ≡ Deck
   deck_turn b first place = grind (arith, nat_tests)
@@ -189,14 +190,6 @@ module _ (rules : LineRules) where
       by : IsTailWith rules t (Some e.command) → IsWholeCommand rules t
       by (inl (block, is)) = (block, e.command, is)
       by (inr (reply, is)) = absurd (let inside = (answered rules t reply e.command is).place in cc)
-
-  pub late_told : (t : List LineByte) (b : OpenBlock) (e : Exchange) (r : LineByte) → IsInside rules t b e → place_at b ≡ AfterCommand → r.wire ≡ Deck → (since : ℕ)
-      → since ≡ r.time_us - last_time t → TellsLate rules t r (nat_lt reply_limit since)
-  late_told t b e r h place wire since is = by (nat_lt reply_limit since) refl
-    where
-      by : (late : Bool) → nat_lt reply_limit since ≡ late → TellsLate rules t r late
-      by true late = record { asked = complete t b e h (sym h.stands.place ∙ place); wire = wire; late = grind (arith, nat_tests) }
-      by false soon = λ begins. let late = begins.late in grind (arith, nat_tests)
 
   pub late_of_view : (was old : Paired) (r : LineByte) → was ≡ old → was.rules ≡ rules → (late : Bool) → TellsLate rules was.tail r late → TellsLate old.rules old.tail r late
   late_of_view was old r same at late told = rw (← same, at) told
@@ -235,14 +228,19 @@ module _ (rules : LineRules) where
       let first = (whole_parts Controller t command (r ∷ []) reply b block whole.whole is.whole split).0 in
       rw same (ap length (sym first), is_after_command block asked (rw (sym first) at is) (rw (sym first) refl))
 
-  pub is_late_reply : (t : List LineByte) (b : OpenBlock) (e : Exchange) (r : LineByte) → IsInside rules t b e
-      → early_fault rules.reply_limit (place_of t) t r ≡ None → true ≡ is_late (place_of t) t r → BeginsLate rules t r
-  is_late_reply t b e r h quiet late =
-      let place = late_place (place_of t) t r late in
-      by (complete t b e h place) (rw place at quiet) (rw place at late)
-    where
-      by : IsWholeCommand rules t → early_fault rules.reply_limit AfterCommand t r ≡ None → true ≡ is_late AfterCommand t r → BeginsLate rules t r
-      by whole quiet late = record { asked = whole; wire = grind (arith, nat_tests); late = grind (arith, nat_tests) }
+  pub is_late_reply : (t : List LineByte) (b : OpenBlock) (e : Exchange) (r : LineByte) → IsInside rules t b e → true ≡ is_late (place_of t) t r → BeginsLate rules t r
+  is_late_reply t b e r h late =
+      let place = late_place (place_of t) r.wire (is_soon t r) late in
+      record { asked = complete t b e h place.0; wire = place.1; late = let after = place.2 in grind (arith, nat_tests) }
+
+  pub tells_late : (t : List LineByte) (b : OpenBlock) (e : Exchange) (r : LineByte) → IsInside rules t b e → (late : Bool) → late ≡ is_late (place_of t) t r
+      → TellsLate rules t r late
+  tells_late t b e r h true is = is_late_reply t b e r h is
+  tells_late t b e r h false is = not_late t r is
+
+  -- the last record of a block begins none
+  pub last_not_late : (t : List LineByte) (b : OpenBlock) (e : Exchange) (r : LineByte) → IsInside rules t b e → None ≡ next_of b r.byte → is_late (place_of t) t r ≡ false
+  last_not_late t b e r h last = inside_not_late t r b h.stands (λ none. grind (arith, nat_tests))
 
   -- ---- what a caller is told
 

@@ -11,7 +11,7 @@ pub use Rattle.block9.specs.Pairer.{BeginsWith, IsOpenAfter, Paired, Refuses, Ta
 pub use Rattle.block9.specs.Reason.{EndsReply, Holds, IsAnswered, IsFirst, IsReason, IsWholeCommand, order}
 pub use Rattle.block9.specs.Working.Body.{block_of}
 pub use Rattle.block9.specs.Working.Inside.{asked_on, closed_of, Closes, completed, grown, IsInside, IsTailWith, IsOf, IsTurn, IsTurned, last_fed, next_of, place_at, place_on, Stands, to_come}
-pub use Rattle.block9.specs.Working.Table.{early_fault, ends_block, fault_at, is_late, is_soon, open_at, pairing, place_of, reply_fault, wire_fault}
+pub use Rattle.block9.specs.Working.Table.{early_fault, ends_block, fault_at, is_late, is_soon, late_on, open_at, pairing, place_of, reply_fault, wire_fault}
 pub use Rattle.block9.specs.declared.block.Block.{Block}
 pub use Rattle.block9.specs.declared.command.Command.{Command}
 pub use Rattle.block9.specs.declared.open.Open.{Open}
@@ -22,6 +22,7 @@ pub use Rattle.block9.specs.declared.line_rules.ReplyLimit.TheVariants.{Counts, 
 pub use Rattle.block9.specs.declared.place.Place.{Place}
 pub use Rattle.block9.specs.declared.place.Place.TheVariants.{AfterCommand, Idle, InCommand, InReply}
 pub use Rattle.block9.specs.declared.reason.Reason.{Reason}
+pub use Rattle.block9.specs.declared.refusal.Refusal.{Refusal}
 pub use Rattle.block9.specs.declared.reason.Reason.TheVariants.{ByteGap, CommandBeforeReply, CommandInsideReply, InvalidCommandTime, InvalidReplyTime, LateReply, NoReply, NoRun}
 pub use Rattle.block9.specs.declared.reason.Reason.TheVariants.{ReplyInsideCommand, ReplyWithoutCommand, WrongGroup, WrongReply, WrongSum}
 pub use Rattle.capture9.specs.declared.line_byte.LineByte.{LineByte}

@@ -1,8 +1,9 @@
 //! Blocks of the protocol, and the pairing of commands and replies, one record at a time.
 //!
 //! A `Block` is what bytes on the line spell, and a `Command` is what a block of the controller means. A
-//! `Pairer` takes the captured bytes in turn and answers each `Exchange`, a command with its reply, or the
-//! `Reason` why a record breaks the rules.
+//! `Pairer` takes the captured bytes in turn. It answers the `Step` that a record makes, and shows the
+//! `Exchange`, a command with its reply, where the record completes one. Where the record breaks a rule it
+//! answers a `Refusal`.
 #![tactic(auto)]
 
 mod at_25;
@@ -18,6 +19,7 @@ mod open_block;
 mod pairer;
 mod place;
 mod reason;
+mod refusal;
 mod replies;
 mod reply;
 mod rules;
@@ -32,6 +34,7 @@ pub use nak::NakBits;
 pub use open::Open;
 pub use pairer::{Pairer, Step};
 pub use reason::Reason;
+pub use refusal::Refusal;
 pub use replies::{NamedReplies, ReplyForm};
 pub use reply::reply_time_valid_at;
 

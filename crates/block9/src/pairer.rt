@@ -1,6 +1,6 @@
 //! Pairs commands with replies, one record at a time.
 ghost use Rattle.std.specs.List.{sum};
-ghost use Rattle.std.specs.Prelude.{◌≡◌, ◌≤◌, ◌%◌, ◌++◌, ◌∷◌, true, [], IfOk, IfErr, OnErr, OnOk, None, Some};
+ghost use Rattle.std.specs.Prelude.{◌≡◌, ◌≤◌, ◌%◌, ◌++◌, ◌∷◌, false, true, [], IfOk, IfErr, OnErr, OnOk, None, Some};
 ghost use Rattle.block9.specs.Exchange.{Does, Outcome, step_of, tail_after};
 ghost use Rattle.block9.specs.Exchange.Outcome.{asks};
 ghost use Rattle.block9.specs.declared.exchange.Exchange.{Exchange as AnExchange};
@@ -10,7 +10,6 @@ ghost use Rattle.block9.specs.Working.Body.{block_of};
 ghost use Rattle.block9.specs.Working.Inside.{Closes, IsInside, IsOf, IsTurn, to_come};
 ghost use Rattle.block9.specs.Working.Table.{ends_block, open_at, pairing, place_of, reply_fault};
 
-use crate::REPLY_LIMIT_US;
 use crate::command::Command;
 use crate::exchange::Exchange;
 use crate::line::{block_len, last_time};
@@ -19,6 +18,7 @@ use crate::open::Open;
 use crate::open_block::OpenBlock;
 use crate::place::Place;
 use crate::reason::Reason;
+use crate::refusal::Refusal;
 use crate::replies::NamedReplies;
 use crate::rules::{Turned, meaning, reply_fault, sum_fault, turn};
 use crate::tail::Tail;
@@ -81,7 +81,7 @@ pub enum Step {
 }
 
 impl<'a> Pairer<'a> {
-    ghost use Rattle.std.specs.Prelude.{◌≡◌, ◌≤◌, ◌↔◌, length, option_map, None, Some, [], IfOk, IfErr};
+    ghost use Rattle.std.specs.Prelude.{◌≡◌, ◌≤◌, ◌↔◌, false, length, option_map, None, Some, [], IfOk, IfErr};
     ghost use Rattle.std.specs.Option.{ForSome};
     ghost use Rattle.block9.specs.Exchange.{Outcome, TellsLate, step_of};
     ghost use Rattle.block9.specs.Pairer.{BeginsWith, IsOpenAfter, Takes, Refuses};
@@ -118,20 +118,20 @@ impl<'a> Pairer<'a> {
     ///
     /// `Err` is the first rule that the record breaks, in the order that [`Reason`] gives and
     /// `specs/Reason.antt` states, a line for each: the records so far keep the rules, and with this one they
-    /// do not. The tail stays as it was. Every later call answers the same reason and changes nothing.
-    /// [`Reason::NoRun`] is never among them.
+    /// do not; and whether the record begins a late reply, whatever it breaks. The tail stays as it was. Every later
+    /// call answers the same reason, says nothing of a late reply, and changes nothing. [`Reason::NoRun`] is never among them.
     ///
     /// The rules are the protocol manual's; where it leaves a choice, they favour the deck.
     #[inline(always)] // else each record costs a call
-    pub fn feed(&mut self, line_byte: LineByte) -> Result<Step, Reason>
+    pub fn feed(&mut self, line_byte: LineByte) -> Result<Step, Refusal>
         requires { ForSome self.old.last_time (λ before. before ≤ line_byte.time_us) }
         ensures takes { self.old.reason ≡ None → IfOk result (λ step. (outcome : Outcome) × (step ≡ step_of outcome) × Takes self.old line_byte outcome self.new) }
-        ensures refuses { self.old.reason ≡ None → IfErr result (λ reason. Refuses self.old line_byte reason self.new) }
+        ensures refuses { self.old.reason ≡ None → IfErr result (λ refusal. Refuses self.old line_byte refusal.reason self.new × TellsLate self.old.rules self.old.tail line_byte refusal.late) }
         ensures again { (reason : Reason) → self.old.reason ≡ Some reason
-            → (result ≡ Err reason) × (self.new ≡ self.old) }
+            → (result ≡ Err (record { reason = reason; late = false })) × (self.new ≡ self.old) }
     {
         if let Some(reason) = self.reason {
-            return Err(reason);
+            return Err(Refusal::of(reason));
         }
         let limit = self.rules.reply_limit;
         match turn(limit, self.block, self.tail.as_slice(), line_byte) {
@@ -144,9 +144,9 @@ impl<'a> Pairer<'a> {
                 return Ok(Step::Waiting);
             }
             Ok(Turned::Last) => {}
-            Err(reason) => {
+            Err(refusal) => {
                 self.passed_us = Some(line_byte.time_us);
-                return refuse(&mut self.reason, reason);
+                return refuse(&mut self.reason, refusal);
             }
         }
         self.passed_us = Some(line_byte.time_us);
@@ -179,22 +179,6 @@ impl<'a> Pairer<'a> {
         ensures { result.now ≡ self.now.tail }
     {
         self.tail.as_slice()
-    }
-
-    /// Whether this record begins a late reply: the command is complete, no record of its reply came yet, and this one comes
-    /// after the reply limit. Ask it of a record that was just refused, which may begin a late reply and break another rule.
-    pub fn begins_late(&self, line_byte: LineByte) -> bool
-        ensures { TellsLate self.now.rules self.now.tail line_byte result }
-    {
-        match (self.block.place(), line_byte.wire) {
-            (Place::AfterCommand, Wire::Deck) => {
-                let since = line_byte
-                    .time_us
-                    .saturating_sub(last_time(self.tail.as_slice()));
-                since > REPLY_LIMIT_US
-            }
-            _ => false,
-        }
     }
 
     /// What the command means with which the tail begins, once that is complete. After a reason it is that of the tail before
@@ -280,12 +264,12 @@ impl<'a> Pairer<'a> {
 
 /// Keeps the reason why a record is refused, and refuses it.
 #[inline(always)] // else the answer is handed on through memory
-fn refuse(kept: &mut Option<Reason>, reason: Reason) -> Result<Step, Reason>
-    ensures refused { result ≡ Err reason }
-    ensures kept { kept.new ≡ Some reason }
+fn refuse(kept: &mut Option<Reason>, refusal: Refusal) -> Result<Step, Refusal>
+    ensures refused { result ≡ Err refusal }
+    ensures kept { kept.new ≡ Some refusal.reason }
 {
-    *kept = Some(reason);
-    Err(reason)
+    *kept = Some(refusal.reason);
+    Err(refusal)
 }
 
 /// The records of the reply that the tail ends with.
@@ -362,25 +346,25 @@ fn end(
     exchange: &mut Exchange,
     kept: &mut Option<Reason>,
     line_byte: LineByte,
-) -> Result<Step, Reason>
+) -> Result<Step, Refusal>
     requires held { IsInside rules.now tail.old block.old exchange.old }
     requires later { last_time tail.old ≤ line_byte.time_us }
     requires ends { IsTurn rules.now tail.old line_byte true }
     ensures ok { IfOk result (λ step. (outcome : Outcome) × (step ≡ step_of outcome) × Does rules.now tail.old line_byte outcome × IsOf exchange.new outcome × (tail.new ≡ tail_after tail.old line_byte outcome) × (kept.new ≡ kept.old)) }
-    ensures err { IfErr result (λ reason. (pairing rules.now tail.old line_byte ≡ Some reason) × (kept.new ≡ Some reason) × (tail.new ≡ tail.old)) }
+    ensures err { IfErr result (λ refusal. (pairing rules.now tail.old line_byte ≡ Some refusal.reason) × (refusal.late ≡ false) × (kept.new ≡ Some refusal.reason) × (tail.new ≡ tail.old)) }
     ensures holds { IsInside rules.now tail.new block.new exchange.new }
 {
     if let Some(reason) = sum_fault(*block, line_byte.byte) {
-        return refuse(kept, reason);
+        return refuse(kept, Refusal::of(reason));
     }
     match block.wire {
         Wire::Controller => match end_command(rules, tail, block, exchange, line_byte) {
             Ok(()) => Ok(Step::Command),
-            Err(reason) => refuse(kept, reason),
+            Err(reason) => refuse(kept, Refusal::of(reason)),
         },
         Wire::Deck => match end_reply(rules, tail, block, exchange) {
             Ok(()) => Ok(Step::Exchange),
-            Err(reason) => refuse(kept, reason),
+            Err(reason) => refuse(kept, Refusal::of(reason)),
         },
     }
 }

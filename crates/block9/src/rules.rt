@@ -4,7 +4,7 @@ ghost use Rattle.std.specs.Prelude.{◌≡◌, ◌≢◌, ◌≤◌, ◌<◌, tr
 ghost use Rattle.block9.specs.Command.{command_of};
 ghost use Rattle.block9.specs.Line.{allows, last_time};
 ghost use Rattle.block9.specs.Working.Inside.{IsTurned, Stands, place_at};
-ghost use Rattle.block9.specs.Working.Table.{early_fault, is_soon, place_of, reply_fault, wire_fault};
+ghost use Rattle.block9.specs.Working.Table.{early_fault, is_late, is_soon, place_of, reply_fault, wire_fault};
 
 use crate::block::Block;
 use crate::command::Command;
@@ -13,6 +13,7 @@ use crate::line_rules::{LineRules, ReplyLimit};
 use crate::open_block::OpenBlock;
 use crate::place::Place;
 use crate::reason::Reason;
+use crate::refusal::Refusal;
 use crate::reply::reply_time_valid_at;
 use crate::{BYTE_GAP_US, REPLY_LIMIT_US};
 use capture9::{LineByte, Wire};
@@ -28,30 +29,30 @@ pub(crate) enum Turned {
 }
 
 /// What the record makes of the block at the tail's end, or the first rule that it breaks by the wire, the time, the group or
-/// the gap. Most records go on with a block on its wire: of them the gap alone is tested.
+/// the gap, and whether it begins a late reply. Most records go on with a block on its wire: of them the gap alone is tested.
 #[inline(always)]
 pub(crate) fn turn(
     limit: ReplyLimit,
     block: OpenBlock,
     tail: &[LineByte],
     line_byte: LineByte,
-) -> Result<Turned, Reason>
+) -> Result<Turned, Refusal>
     requires stands { Stands tail.now block }
     requires later { last_time tail.now ≤ line_byte.time_us }
     ensures ok { IfOk result (λ turned. (early_fault limit (place_of tail.now) tail.now line_byte ≡ None) × IsTurned tail.now block line_byte turned) }
-    ensures err { IfErr result (λ reason. early_fault limit (place_of tail.now) tail.now line_byte ≡ Some reason) }
+    ensures err { IfErr result (λ refusal. (early_fault limit (place_of tail.now) tail.now line_byte ≡ Some refusal.reason) × (refusal.late ≡ is_late (place_of tail.now) tail.now line_byte)) }
 {
     if line_byte.wire != block.wire {
         let soon = is_soon(tail, line_byte);
         if let Some(reason) = wire_fault(block.place(), line_byte.wire, soon) {
-            return Err(reason);
+            return Err(Refusal::of(reason));
         }
     }
     if block.left == 0 {
         return begin(limit, block, tail, line_byte);
     }
     if line_byte.time_us - tail[tail.len() - 1].time_us > BYTE_GAP_US {
-        return Err(Reason::ByteGap);
+        return Err(Refusal::of(Reason::ByteGap));
     }
     match block.longer(line_byte.byte) {
         Some(longer) => Ok(Turned::Open {
@@ -63,30 +64,36 @@ pub(crate) fn turn(
 }
 
 /// What a record on the wire whose turn it is begins, or the rule that it breaks as the first one of its block: its time, its
-/// group.
+/// group. A late reply with a wrong group is refused for its group where the limit is left aside, and is late all the same.
 #[inline(always)]
 fn begin(
     limit: ReplyLimit,
     block: OpenBlock,
     tail: &[LineByte],
     line_byte: LineByte,
-) -> Result<Turned, Reason>
+) -> Result<Turned, Refusal>
     requires stands { Stands tail.now block }
     requires later { last_time tail.now ≤ line_byte.time_us }
     requires first { block.left ≡ 0 }
     requires turn { wire_fault (place_at block) line_byte.wire (is_soon tail.now line_byte) ≡ None }
     ensures ok { IfOk result (λ turned. (early_fault limit (place_of tail.now) tail.now line_byte ≡ None) × IsTurned tail.now block line_byte turned) }
-    ensures err { IfErr result (λ reason. early_fault limit (place_of tail.now) tail.now line_byte ≡ Some reason) }
+    ensures err { IfErr result (λ refusal. (early_fault limit (place_of tail.now) tail.now line_byte ≡ Some refusal.reason) × (refusal.late ≡ is_late (place_of tail.now) tail.now line_byte)) }
 {
     let late = match block.wire {
         Wire::Controller => false,
         Wire::Deck => !is_soon(tail, line_byte),
     };
     if late && limit == ReplyLimit::Counts {
-        return Err(Reason::LateReply);
+        return Err(Refusal {
+            reason: Reason::LateReply,
+            late,
+        });
     }
     if !allows(block.wire, line_byte.byte / 16) {
-        return Err(Reason::WrongGroup);
+        return Err(Refusal {
+            reason: Reason::WrongGroup,
+            late,
+        });
     }
     Ok(Turned::Open {
         block: block.begun(line_byte.byte),

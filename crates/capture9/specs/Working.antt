@@ -30,7 +30,7 @@ standing_at stage.InRows = standing.Reading
 standing_at stage.Ended = standing.Ended
 standing_at (stage.Refused e) = standing.Refused e
 
--- whether the header was read: before an end it was, and before each refusal but one at row 0
+-- whether the header was read: a refusal of the header itself stands at row 0, and each later one at its data row, counted from 1
 abbrev pub is_past_header : Stage → Bool
 is_past_header stage.BeforeHeader = false
 is_past_header stage.InRows = true

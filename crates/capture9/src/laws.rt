@@ -3,15 +3,22 @@ ghost use Rattle.std.specs.Prelude.{◌≡◌, ◌↔◌, ◌∷◌, true, ℕ, 
 ghost use Rattle.std.specs.List.{All, list_all};
 ghost use Rattle.std.specs.List.Sorted.{IsNonDecreasingBy};
 ghost use Rattle.capture9.specs.Error.{IsAfter, is_of_text};
-ghost use Rattle.capture9.specs.Fields.{is_header};
+ghost use Rattle.capture9.specs.Fields.{greatest_limit, is_header, most_rows};
 ghost use Rattle.capture9.specs.RowRules.{HasFirstPart};
 ghost use Rattle.capture9.specs.Rows.{HasHeader, Rows, rows_within};
 ghost use Rattle.capture9.specs.Shown.{in_quotes, is_printable, shown_of, shown_text};
 ghost use Rattle.capture9.specs.SomeText.{CanBeRows, IsOfSomeText};
+ghost use Rattle.capture9.specs.declared.records.TheConstants.{GREATEST_LIMIT, MOST_ROWS};
 ghost use Rattle.csv.specs.Reading.{default_config, records, strip_bom};
 
 use crate::error::CaptureError;
 use crate::shown_field::ShownField;
+
+/// The limits that are published are those that the contracts go by.
+pub fn published_limits()
+    ensures most { MOST_ROWS ≡ most_rows }
+    ensures greatest { GREATEST_LIMIT ≡ greatest_limit }
+{}
 
 /// A text has its header exactly where its first CSV record is one.
 pub fn header_of_a_text()

@@ -3,9 +3,8 @@
 //! The form of the text is a choice of these rules. Its first CSV record is the header
 //! `time_us,wire,byte`, and each further one is a data row of three fields: the time in microseconds as
 //! 1 to 15 decimal digits, the wire as `C` (controller) or `D` (deck), and the byte as two hexadecimal
-//! digits of either case. Times never fall, and there are no more data rows
-//! than the reading is given as its limit. What a CSV record is, with its quotes, line ends and skipped
-//! empty lines, is as `csv` says.
+//! digits of either case. Times never fall, and there are at most as many data rows as the limit given to
+//! `Records::new`. What a CSV record is, with its quotes, line ends and skipped empty lines, is as `csv` says.
 #![tactic(auto)]
 
 mod capture;

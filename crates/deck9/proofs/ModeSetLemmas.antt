@@ -1,7 +1,7 @@
 -- Sets of modes, one bit at a time; some mode of a set, and one mode alone.
 use Rattle.deck9.proofs.Words.{[], and-true, and_from, and_mask, and_parts, and_pow, ap, arith, bit_and, bit_at, bit_at-lt, bit_at-pow_other, bit_at-pow_same, bit_at-zero}
-use Rattle.deck9.proofs.Words.{bit_at_and, bit_at_or, bit_of, bit_or, Bool, both_ways, cases_Bool, cases_eq, Cued, Eject, eq-eqb, false, false_from_ne_true, false≢true}
-use Rattle.deck9.proofs.Words.{every_mode, FastForward, has, index_of, inl, inr, is_mode, is_one_of, is_some, Jog, List, list_any, mod-lt, Mode, ModeSet, nat_tests, not, of_modes, or-true}
+use Rattle.deck9.proofs.Words.{bit_at_and, bit_at_or, bit_of, bit_or, Bool, both_ways, cases_Bool, cases_eq, Cued, Eject, eq-eqb, eqb-true, false, false_from_ne_true, false≢true}
+use Rattle.deck9.proofs.Words.{every_mode, FastForward, has, index_of, inl, inr, is_mode, is_one_of, is_some, Jog, List, list_all, list_any, mod-lt, Mode, ModeSet, nat_tests, not, of_modes, or-true}
 use Rattle.deck9.proofs.Words.{or_cases, Play, pow_pos, Rec, refl, Rewind, same_from_bits_below, same_test, Shuttle, Stop, subst, sym, true, true_from_ne_false, Var, ℕ, ◌&&◌}
 use Rattle.deck9.proofs.Words.{◌*◌, ◌<◌, ◌==◌, ◌^◌, ◌||◌, ◌∙◌, ◌∷◌, ◌≡◌, ◌≢◌, ◌⊎◌}
 use Rattle.deck9.proofs.ModeLemmas.{index-mode_of, is_mode-same, mode_of, same_mode}
@@ -101,6 +101,21 @@ mode_some s m h = elim (cases_eq (bit_and s.0 1023) 0) [
 pub some_any : (s : ModeSet) → is_some s ≡ list_any (has s.0) every_mode
 some_any s = same_test (is_some s) (list_any (has s.0) every_mode) (λ h. let w = some_mode s h in any_mode (has s.0) w.0 w.1)
     (λ h. let w = find_mode (has s.0) every_mode h in mode_some s w.0 w.1)
+
+-- ---- every mode
+
+every_has : (f : Mode → Bool) → list_all f every_mode ≡ true → (m : Mode) → f m ≡ true
+every_has f h Stop = grind (arith, h)
+every_has f h _ = grind (arith, h)
+
+has_every : (f : Mode → Bool) → ((m : Mode) → f m ≡ true) → list_all f every_mode ≡ true
+has_every f h = rw (h Stop, h Play, h Rec, h FastForward, h Rewind, h Shuttle, h Jog, h Var, h Cued, h Eject) refl
+
+-- a set has every mode where its ten bits are set
+pub all_every : (s : ℕ) → (bit_and s 0x3FF == 0x3FF) ≡ list_all (has s) every_mode
+all_every s = same_test (bit_and s 0x3FF == 0x3FF) (list_all (has s) every_mode)
+    (λ h. has_every (has s) (λ m. sym (has_ten s m) ∙ ap (λ b. has b m) (eqb-true (bit_and s 0x3FF) 0x3FF h) ∙ all_has m))
+    (λ h. eq-eqb (bit_and s 0x3FF) 0x3FF (same_modes (bit_and s 0x3FF) 0x3FF (ten_bits s) (omega arith) (λ m. has_ten s m ∙ every_has (has s) h m ∙ sym (all_has m))))
 
 -- ---- one mode alone
 

@@ -45,7 +45,7 @@ pub use Rattle.std.proofs.lemmas.Option.{slice_get_past}
 pub use Rattle.std.specs.Cmp.{both_ways as same_test}
 pub use Rattle.std.specs.Int.{bit_at}
 pub use Rattle.std.specs.Iterator.Adapters.{zip_first, zip_second}
-pub use Rattle.std.specs.List.{All, filter, list_any}
+pub use Rattle.std.specs.List.{All, filter, list_all, list_any}
 pub use Rattle.std.specs.Slice.Iter.{iter_rest}
 pub use Rattle.tc25.proofs.DayLemmas.{bytes_read, given_reads, read_given}
 pub use Rattle.tc25.specs.Day.{bcd, bytes_of, day, frames_of, hours_of, label_of, minutes_of, next_frame, prev_frame, seconds_of}

@@ -10,7 +10,8 @@ pub struct ModeSet(u16);
 
 impl ModeSet {
     ghost use Rattle.std.specs.Prelude.{◌≡◌, ◌<◌, ◌^◌, ◌&&◌, ◌||◌, true, false};
-    ghost use Rattle.deck9.specs.Mode.{is_mode, is_one_of, on_the_way};
+    ghost use Rattle.std.specs.List.{list_all};
+    ghost use Rattle.deck9.specs.Mode.{every_mode, is_mode, is_one_of, on_the_way};
     ghost use Rattle.deck9.specs.ModeSet.{bit_of, either, has};
     ghost use Rattle.deck9.specs.ModeCalls.{KnowsModes, both, is_some, way};
     ghost use Rattle.deck9.specs.declared.mode.Mode.{Mode as AMode};
@@ -142,6 +143,13 @@ impl ModeSet {
         ensures { result ≡ is_some self }
     {
         self.intersects(ModeSet::ALL)
+    }
+
+    /// Whether every mode is in the set.
+    pub fn is_every(self) -> bool
+        ensures { result ≡ list_all (has self.0) every_mode }
+    {
+        self.contains(ModeSet::ALL)
     }
 
     /// The modes of either set.

@@ -16,8 +16,8 @@ pub struct Profile {
     pub rate: Rate,
     /// Whether hands may touch its panel during a capture.
     pub hands: Hands,
-    /// What it forgets at commands that are not listed, and at each beside its effect, and the modes on the way to its goals. Where
-    /// it is `None`, these are what the rules say of every deck.
+    /// What it forgets at commands that are not listed, and beside the effects of commands, listed or not; the modes on the way to
+    /// its goals; and the replies and the names of its commands. Where it is `None`, all is as the rules say of every deck.
     pub deck: Option<Deck>,
 }
 

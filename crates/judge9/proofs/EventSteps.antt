@@ -1,6 +1,6 @@
 -- What is told of the records of a part, with one record more.
-use Rattle.judge9.proofs.Words.{[], ap, append-nil, append_assoc, AreEvents, AreTextsOf, arith, Cut, cut_once, Does, Event, events_by, Exchange, exchanges_after, IsEventText, IsLineOf}
-use Rattle.judge9.proofs.Words.{KeepsEnds, Ends, knowledge_same, late_replies, length, LineByte, LineRules, List, Outcome, Possible, refl, subst, sym, tail_after, Terms, Tracked, ℕ}
+use Rattle.judge9.proofs.Words.{[], ap, append-nil, append_assoc, AreEvents, arith, Cut, cut_once, Does, Event, events_by, Exchange, exchanges_after}
+use Rattle.judge9.proofs.Words.{late_replies, length, LineByte, LineRules, List, Outcome, refl, subst, sym, tail_after, ℕ}
 use Rattle.judge9.proofs.Words.{◌++◌, ◌+◌, ◌∙◌, ◌∷◌, ◌≡◌}
 use Rattle.block9.proofs.CutLemmas.{tail_less}
 use Rattle.block9.proofs.LineLemmas.{block_len-append, whole_len, whole_long}
@@ -12,24 +12,7 @@ use Rattle.block9.proofs.ReasonLemmas.{none_holds}
 use Rattle.block9.specs.declared.line_rules.ReplyLimit.TheVariants.{Counts}
 use Rattle.block9.specs.declared.reason.Reason.TheVariants.{LateReply}
 use Rattle.judge9.specs.Parts.Event.{exchange, late_reply}
-use Rattle.verdict9.specs.Telling.{view_of}
-use Rattle.verdict9.specs.declared.verdict.Telling.TheVariants.{the_data as Telling}
-use Rattle.verdict9.specs.declared.verdict.View.TheVariants.{the_data as View}
 use Rattle.judge9.proofs.CutSteps.{cut-step}
-
--- ---- texts
-
--- those of one list, and then those of another
-pub texts_joined : {A : Type 0} (T : A → List ℕ → Type 0) (xs ys : List A) (first others : List ℕ) → AreTextsOf T xs first → AreTextsOf T ys others
-    → AreTextsOf T (xs ++ ys) (first ++ others)
-texts_joined T [] ys first others h k = rw h k
-texts_joined T (x ∷ xs) ys first others h k =
-    (h.0, h.1 ++ others, h.2, texts_joined T xs ys h.1 others h.3 k, ap (λ t. t ++ others) h.4 ∙ append_assoc h.0 h.1 others)
-
--- that of one more
-pub texts_push : {A : Type 0} (T : A → List ℕ → Type 0) (xs : List A) (x : A) (texts text : List ℕ) → AreTextsOf T xs texts → T x text
-    → AreTextsOf T (xs ++ x ∷ []) (texts ++ text)
-texts_push T xs x texts text are is = texts_joined T xs (x ∷ []) texts text are (text, [], is, refl, sym (append-nil text))
 
 -- ---- late replies
 
@@ -37,22 +20,6 @@ pub late_joined : (a b : List Event) → late_replies (a ++ b) ≡ late_replies 
 late_joined [] b = omega arith
 late_joined (late_reply at asked r ∷ a) b = omega (arith, late_joined a b)
 late_joined (exchange at before e ∷ a) b = late_joined a b
-
--- how many there are with one record more
-abbrev pub late_with : ℕ → Outcome → ℕ
-late_with late Outcome.leaves_open = late
-late_with late Outcome.answers_late = late + 1
-late_with late Outcome.asks = late
-late_with late (Outcome.completes e) = late
-
-pub late_more : (late : ℕ) (s : Outcome) (at : ℕ) (es : List Exchange) (tail : List LineByte) (r : LineByte) (events : List Event) → late ≡ late_replies events
-    → late_with late s ≡ late_replies (events ++ events_by at es tail r s)
-late_more late s at es tail r events same = by s (late_joined events (events_by at es tail r s))
-  where
-    by : (s : Outcome) → late_replies (events ++ events_by at es tail r s) ≡ late_replies events + late_replies (events_by at es tail r s)
-        → late_with late s ≡ late_replies (events ++ events_by at es tail r s)
-    by Outcome.answers_late joined = omega (arith, joined)
-    by s joined = omega (arith, joined)
 
 -- where the limit counts there is none
 pub limit_counts : (rules : LineRules) (t : List LineByte) (r : LineByte) → rules.reply_limit ≡ Counts → Does rules t r Outcome.answers_late → ⊥
@@ -130,11 +97,3 @@ events_once rules past es tail (r ∷ records) some others (o, more, done, are, 
     let once = does_once rules tail r o p done does in
     let on = events_once rules (past + 1) (exchanges_after es p) (tail_after tail r p) records more rest (rw once at are) also in
     is ∙ ap (λ x. events_by (past + 1) es tail r x ++ more) once ∙ ap (λ l. events_by (past + 1) es tail r p ++ l) on ∙ sym same
-
--- the text of an exchange
-pub exchange_text : (telling : Telling) (terms : Terms) (es : List Exchange) (e : Exchange) (n : ℕ) (line : List ℕ) (t : Tracked)
-    → KeepsEnds terms.profile (es ++ e ∷ []) t → IsLineOf (view_of telling) terms.profile n e (Possible t.states) line → IsEventText telling terms (exchange n es e) line
-exchange_text (Telling.Shown View.Verdict) terms es e n line t follows is = is
-exchange_text (Telling.Shown (View.Explain detail)) terms es e n line t follows is =
-    (is.0, knowledge_same (Possible t.states) (Ends terms.profile (es ++ e ∷ [])) is.0 follows.states is.1, is.2)
-exchange_text Telling.Why terms es e n line t follows is = is

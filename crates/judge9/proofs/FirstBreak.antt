@@ -93,7 +93,7 @@ module _ (profile : Profile) where
 
   -- a late reply of the first part, before which none is late
   pub first_late : (items after : List LineByte) (part : Part) (front more : List Event) (at : ℕ) (asked : List LineByte) (r : LineByte) → items ≡ part.records ++ after
-      → part.past ≡ 0 → IsPart profile part → part.events ≡ front ++ late_reply at asked r ∷ more → late_replies front ≡ 0
+      → part.past ≡ 0 → IsPart (in_parts profile) part → part.events ≡ front ++ late_reply at asked r ∷ more → late_replies front ≡ 0
       → IsFirstBreak (counting profile) items at Reason.LateReply
   first_late items after part front more at asked r whole start is split none =
       let found = find_late [] part.past [] [] part.records part.events front more at asked r (refl, IsTail.nothing refl) is.are_events split none in
@@ -114,17 +114,10 @@ module _ (profile : Profile) where
   abbrev pub reason_told : BrokenPart → Reason
   reason_told b = if b.late then Reason.LateReply else b.reason
 
-  pub first_break : (items : List LineByte) (b : BrokenPart) (broken : List BrokenPart) (left : Rest)
-      → AreParts profile (record { past = 0; records = items }) (b ∷ broken) left → late_replies b.part.events ≡ 0
-      → IsFirstBreak (counting profile) items (number_of b) (reason_told b)
-  first_break items b broken left (after, same, part, breaks, tells, others) none = record {
-    before = b.part.records;
-    next = b.breaking;
-    after = after;
-    split = ap (λ (x : Rest). x.records) same;
-    number = let start : 0 ≡ b.part.past = ap (λ (x : Rest). x.past) same in omega arith;
-    breaks = by b.late tells;
-  }
+  -- a part of which no reply is late breaks there
+  pub breaks_in_time : (b : BrokenPart) → IsPart (in_parts profile) b.part → Breaks (in_parts profile) b.part.records b.breaking b.reason
+      → TellsLate (line_rules (in_parts profile)) b.part.tail b.breaking b.late → late_replies b.part.events ≡ 0 → Breaks (counting profile) b.part.records b.breaking (reason_told b)
+  breaks_in_time b part breaks tells none = by b.late tells
     where
       p : List LineByte
       p = b.part.records
@@ -141,3 +134,15 @@ module _ (profile : Profile) where
       by true late = late_breaks p b.part.exchanges b.part.tail b.breaking cut part.run late
       by false early = break_moved profile Counts p b.part.exchanges b.part.tail p b.part.exchanges b.part.tail (last_time b.part.tail) (last_time b.part.tail) 0 b.breaking
           b.breaking b.reason along (record { wire = refl; byte = refl; as_it_did = λ none. refl; at_limit = λ some. absurd (some refl); in_time = inr (early, refl) }) breaks
+
+  pub first_break : (items : List LineByte) (b : BrokenPart) (broken : List BrokenPart) (left : Rest)
+      → AreParts (in_parts profile) (record { past = 0; records = items }) (b ∷ broken) left → late_replies b.part.events ≡ 0
+      → IsFirstBreak (counting profile) items (number_of b) (reason_told b)
+  first_break items b broken left (after, same, part, breaks, tells, others) none = record {
+    before = b.part.records;
+    next = b.breaking;
+    after = after;
+    split = ap (λ (x : Rest). x.records) same;
+    number = let start : 0 ≡ b.part.past = ap (λ (x : Rest). x.past) same in omega arith;
+    breaks = breaks_in_time b part breaks tells none;
+  }

@@ -1,9 +1,9 @@
 -- The laws on lists of records that keep the rules, on answers, on judging with hands, and on reasons.
-use Rattle.judge9.proofs.Words.{Beginning, IsAnswerFrom, judged_rows, moved_by, passed_before, Terms, LineRules, line_rules, counting, [], Answer, ap, append-nil, append_assoc, Applies, arith, Breaks, cases_lt, Cut, cut_once, cut_parted, drop, Exchange, exchange_kept, explained_of}
+use Rattle.judge9.proofs.Words.{Beginning, IsAnswerFrom, judged_rows, moved_by, passed_before, Terms, LineRules, line_rules, counting, [], Answer, ap, append-nil, AreCounts, append_assoc, Applies, arith, Breaks, cases_lt, Cut, cut_once, cut_parted, drop, Exchange, exchange_kept}
 use Rattle.judge9.proofs.Words.{first_before_last, first_holds, first_once, Profile, HasRun, Holds, inl, inr, IsAnswer, IsExchange, IsFirst, IsFirstBreak, IsKept, IsOk, IsReason}
 use Rattle.judge9.proofs.Words.{IsTail, kept_by_tail, kept_less, last_is_first, last_time, last_time-append, length, length-append, length_push, LineByte, List, None, Option}
 use Rattle.judge9.proofs.Words.{order, pairing, quiet_kept, rank, rank_low, rank_once, Reason, refl, Rows, same_parts, Some, subst, sym, take, take-append-drop, take-append-le}
-use Rattle.judge9.proofs.Words.{take-append_seam, Verdict, ℕ, ◌++◌, ◌-◌, ◌<◌, ◌∙◌, ◌∷◌, ◌≡◌, ◌≢◌, ◌≤◌}
+use Rattle.judge9.proofs.Words.{take-append_seam, Verdict, ℕ, ◌++◌, ◌<◌, ◌∙◌, ◌∷◌, ◌≡◌, ◌≢◌, ◌≤◌}
 use Rattle.block9.proofs.ReasonLemmas as block
 use Rattle.judge9.proofs.RunSteps.{run_less}
 use Rattle.judge9.proofs.CutSteps.{cut-exchange, cut-tail, kept_grows}
@@ -65,24 +65,18 @@ break_once terms items m n x y b c =
     let next : b.next ≡ c.next = let e = parts.1 in cc in
     (omega (arith, ap length parts.0), breaks_once terms c.before c.next x y (rw (parts.0, next) at b.breaks) c.breaks)
 
-pub taken : (terms : Terms) (rows : Rows) (at : ℕ) (reason : Reason) → (b : IsFirstBreak terms rows.records at reason)
-    → explained_of rows (Answer.judged (Verdict.No at reason)) ≡ b.before
-taken terms rows at reason b =
-    let n : at - 1 ≡ length b.before = let e = b.number in omega arith in
-    ap (λ k. take k rows.records) n ∙ ap (λ l. take (length b.before) l) b.split ∙ take-append_seam b.before (b.next ∷ b.after)
-
--- the records that a report explains keep the rules
-pub answer_ok : (profile : Profile) (rows : Rows) (a : Answer) → IsAnswer profile rows a → IsOk (counting profile) (explained_of rows a)
-answer_ok profile rows (Answer.judged (Verdict.Yes r e n)) is = record { exchanges = is.1.cut_exchanges; tail = is.1.cut_tail; cut = is.1.cut; run = is.1.run }
-answer_ok profile rows (Answer.judged (Verdict.No at reason)) is = rw (taken (counting profile) rows at reason is) (is_ok is)
-answer_ok profile rows (Answer.unreadable e) is = is.1
+-- records that are counted keep the rules
+counts_ok : {terms : Terms} {items : List LineByte} {records exchanges tail : ℕ} → AreCounts terms items records exchanges tail → IsOk terms items
+counts_ok c = record { exchanges = c.cut_exchanges; tail = c.cut_tail; cut = c.cut; run = c.run }
 
 -- one answer at most is right for a text
 pub answer_once : (profile : Profile) (rows : Rows) (a b : Answer) → IsAnswer profile rows a → IsAnswer profile rows b → a ≡ b
 answer_once profile rows (Answer.judged (Verdict.No at x)) (Answer.judged (Verdict.No n y)) i j = let same = break_once (counting profile) rows.records at n x y i j in
     cc (same.0, same.1)
-answer_once profile rows (Answer.judged (Verdict.No at x)) b i j = absurd (no_break (counting profile) rows.records at x (answer_ok profile rows b j) i)
-answer_once profile rows a (Answer.judged (Verdict.No at x)) i j = absurd (no_break (counting profile) rows.records at x (answer_ok profile rows a i) j)
+answer_once profile rows (Answer.judged (Verdict.No at x)) (Answer.judged (Verdict.Yes s f u)) i j = absurd (no_break (counting profile) rows.records at x (counts_ok j.1) i)
+answer_once profile rows (Answer.judged (Verdict.No at x)) (Answer.unreadable e) i j = absurd (no_break (counting profile) rows.records at x j.1 i)
+answer_once profile rows (Answer.judged (Verdict.Yes r e t)) (Answer.judged (Verdict.No at x)) i j = absurd (no_break (counting profile) rows.records at x (counts_ok i.1) j)
+answer_once profile rows (Answer.unreadable e) (Answer.judged (Verdict.No at x)) i j = absurd (no_break (counting profile) rows.records at x i.1 j)
 answer_once profile rows (Answer.judged (Verdict.Yes r e t)) (Answer.judged (Verdict.Yes s f u)) i j =
     let same = cut_once (line_rules (counting profile)) rows.records i.1.cut_exchanges j.1.cut_exchanges i.1.cut_tail j.1.cut_tail i.1.cut j.1.cut in
     let counts = i.1 in

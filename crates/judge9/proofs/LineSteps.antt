@@ -1,7 +1,6 @@
--- The lines of one exchange more.
-use Rattle.judge9.proofs.Words.{LineRules, records_in, [], ap, append-nil, append_assoc, append_known, Appends, Appends-trans, AreLines, arith, Cut, Ends, Exchange, KeepsEnds, Profile, IsExchange}
-use Rattle.judge9.proofs.Words.{IsExplained, IsKnowledge, IsLineOf, Knowledge, knowledge_same, length, length-append, length-map, line_of_exchange}
-use Rattle.judge9.proofs.Words.{Detail, LineByte, List, None, Option, Possible, records_of, refl, Some, subst, sym, Tracked, View, ℕ, ◌++◌, ◌+◌, ◌∙◌, ◌∷◌, ◌≡◌}
+-- How many records exchanges have, and what is written after other bytes.
+use Rattle.judge9.proofs.Words.{LineRules, records_in, [], ap, append-nil, append_known, Appends, Appends-trans, arith, Cut, Exchange, IsExchange, length, length-append, length-map, LineByte, List, None}
+use Rattle.judge9.proofs.Words.{Option, records_of, refl, Some, subst, ℕ, ◌++◌, ◌+◌, ◌*◌, ◌∷◌, ◌≡◌, ◌≤◌, length_push}
 
 -- ---- how many records exchanges have
 
@@ -20,26 +19,22 @@ pub cut_len : (rules : LineRules) (p : List LineByte) (es : List Exchange) (t : 
 cut_len rules p [] t h = omega (arith, ap length h.0)
 cut_len rules p (e ∷ es) t h = omega (arith, ap length h.2, length-append h.0 h.1, exchange_len rules h.0 e h.3, cut_len rules h.1 es t h.4)
 
--- ---- a line more
+-- the records of a cut, of which each exchange has 6 to 36
+pub cut_counts : (rules : LineRules) (p : List LineByte) (es : List Exchange) (t : List LineByte) → Cut rules p es t
+    → (length es * 6 + length t ≤ length p) × (length p ≤ length es * 36 + length t)
+cut_counts rules p [] t h = (omega (arith, ap length h.0), omega (arith, ap length h.0))
+cut_counts rules p (e ∷ es) t h =
+    let more = cut_counts rules h.1 es t h.4 in
+    let parts = length-append h.0 h.1 in
+    let asked = h.3.command.whole.spelled.block.data_bytes in
+    let answered = h.3.reply.spelled.block.data_bytes in
+    let count = simp length_push at (exchange_len rules h.0 e h.3) in
+    (omega (arith, ap length h.2), omega (arith, ap length h.2))
 
-lines_more : (detail : Detail) (profile : Profile) (before : List Exchange) (at : ℕ) (es : List Exchange) (e : Exchange) (k : Knowledge) (n : ℕ) (text : List ℕ)
-    → AreLines detail profile before at es text → IsKnowledge (Ends profile ((before ++ es) ++ e ∷ [])) k → n ≡ at + records_in (es ++ e ∷ [])
-    → AreLines detail profile before at (es ++ e ∷ []) (text ++ line_of_exchange detail profile n e k)
-lines_more detail profile before at [] e k n text lines knows number =
-    let last : n ≡ at + records_of e = omega arith in
-    (k, [], rw append-nil at knows, refl, ap (λ t. t ++ line_of_exchange detail profile n e k) lines ∙ ap (λ m. line_of_exchange detail profile m e k) last ∙ sym (append-nil _))
-lines_more detail profile before at (f ∷ es) e k n text lines knows number =
-    let knows_on = subst (λ (l : List Exchange). IsKnowledge (Ends profile (l ++ e ∷ [])) k) (sym (append_assoc before (f ∷ []) es)) knows in
-    let rest = lines_more detail profile (before ++ f ∷ []) (at + records_of f) es e k n lines.1 lines.3 knows_on (omega arith) in
-    let line = line_of_exchange detail profile n e k in
-    (lines.0, lines.1 ++ line, lines.2, rest, ap (λ t. t ++ line) lines.4 ∙ append_assoc _ lines.1 line)
-
-pub explained_more : (which : View) (profile : Profile) (past : ℕ) (es : List Exchange) (e : Exchange) (n : ℕ) (text line : List ℕ) (t : Tracked)
-    → KeepsEnds profile (es ++ e ∷ []) t → IsExplained which profile past es text → IsLineOf which profile n e (Possible t.states) line → n ≡ past + records_in (es ++ e ∷ [])
-    → IsExplained which profile past (es ++ e ∷ []) (text ++ line)
-explained_more View.Verdict profile past es e n text line t follows is more number = ap (λ t. t ++ line) is ∙ more
-explained_more (View.Explain detail) profile past es e n text line t follows is more number =
-    rw more.2 (lines_more detail profile [] past es e more.0 n text is (knowledge_same (Possible t.states) (Ends profile (es ++ e ∷ [])) more.0 follows.states more.1) number)
+-- how many records exchanges have, one list after another
+pub records_joined : (es fs : List Exchange) → records_in (es ++ fs) ≡ records_in es + records_in fs
+records_joined [] fs = omega arith
+records_joined (e ∷ es) fs = omega (arith, records_joined es fs)
 
 -- ---- what is written after other bytes
 

@@ -17,6 +17,7 @@ use Rattle.judge9.proofs.LawLemmas.{cut_tail}
 use Rattle.judge9.proofs.MovedEvents.{how_late, late_at_joined, late_here, late_there, none_outside, not_late}
 use Rattle.judge9.proofs.MovedRecords.{Alike, alike_back}
 use Rattle.judge9.proofs.MovedSteps.{does_moved, Near, near_grown, SameOutcome}
+use Rattle.judge9.proofs.Words.{Ends, ◌↔◌}
 use Rattle.judge9.proofs.MovedTails.{by_limit, command_moved, IsSoon, soon_more, tail_soon}
 
 -- ---- exchanges with the same commands and replies
@@ -50,6 +51,19 @@ same_run profile s (e ∷ es) fs [] h run = absurd run
 
 pub run_moved : (profile : Profile) (es fs : List Exchange) → AreSameBlocks es fs → HasRun profile es → HasRun profile fs
 run_moved profile es fs h run = record { first = run.first; is_first = run.is_first; after = run.after; is_run = same_run profile run.first es fs run.after h run.is_run }
+
+-- what is known after them is the same
+known_moved : (profile : Profile) (es fs : List Exchange) → AreSameBlocks es fs → (s : State) → Ends profile es s → Ends profile fs s
+known_moved profile es fs h s ends = record {
+  first = ends.first;
+  is_first = ends.is_first;
+  after = ends.after;
+  is_run = same_run profile ends.first es fs ends.after h ends.is_run;
+  is_last = ends.is_last;
+}
+
+pub known_alike : (profile : Profile) (es fs : List Exchange) → AreSameBlocks es fs → (s : State) → Ends profile es s ↔ Ends profile fs s
+known_alike profile es fs h s = (known_moved profile es fs h s, known_moved profile fs es (blocks_back es fs h) s)
 
 -- ---- after one record more
 

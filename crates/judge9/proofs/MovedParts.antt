@@ -10,7 +10,7 @@ use Rattle.block9.specs.Line.{byte_gap, first_time, is_commands_wire, reply_limi
 use Rattle.block9.specs.declared.line_rules.ReplyLimit.TheVariants.{LeftAside}
 use Rattle.capture9.specs.declared.line_byte.Wire.TheVariants.{Controller, Deck}
 use Rattle.std.proofs.lemmas.Bool.Decides.{nat_tests}
-use Rattle.verdict9.specs.declared.totals.Totals.{Totals}
+use Rattle.report9.specs.declared.totals.Totals.{Totals}
 use Rattle.judge9.specs.InTime.{AreSameBlocks, AreSameButLate, AreSameParts, ComeInTime, IsSamePart, late_at}
 use Rattle.judge9.specs.Parts.Event.{late_reply}
 use Rattle.judge9.proofs.LineSteps.{cut_len}
@@ -54,7 +54,7 @@ from_command_moved late past last other (r ∷ records) moved wire none come =
     by false begins same more = rw (begins, sym same ∙ begins) (more begins)
 
 -- where a part breaks and its next record is not late, or none begins with the record that breaks
-rest_after_low : (n : ℕ) (reason : Reason) (breaking : LineByte) (after : List LineByte) → n ≤ (rest_after n reason breaking after).past
+pub rest_after_low : (n : ℕ) (reason : Reason) (breaking : LineByte) (after : List LineByte) → n ≤ (rest_after n reason breaking after).past
 rest_after_low n reason breaking after = by (begins_next_part reason breaking) refl
   where
     by : (b : Bool) → begins_next_part reason breaking ≡ b → n ≤ (rest_after n reason breaking after).past
@@ -100,7 +100,7 @@ late_in b broken last n = omega (
 
 module _ (profile : Profile) where
   -- a late reply at the break is not at the first record of the part, and its record begins no part
-  late_break : (b : BrokenPart) (after : List LineByte) (n : ℕ) → IsPart profile b.part → TellsLate (line_rules (in_parts profile)) b.part.tail b.breaking b.late
+  late_break : (b : BrokenPart) (after : List LineByte) (n : ℕ) → IsPart (in_parts profile) b.part → TellsLate (line_rules (in_parts profile)) b.part.tail b.breaking b.late
       → (late_in_break b n ≡ 0) ⊎ ((n ≡ number_of b) × (3 ≤ length b.part.records)
       × (number_of b ≤ (rest_after (b.part.past + length b.part.records) b.reason b.breaking after).past))
   late_break b after n part tells = by b.late tells (cases_lt n (number_of b)) (cases_lt (number_of b) n)
@@ -125,7 +125,7 @@ module _ (profile : Profile) where
       )
 
   -- none is late before the second record of what is left
-  none_low : (rest left : Rest) (broken : List BrokenPart) (last : Part) (n : ℕ) → AreParts profile rest broken left → IsLast profile left last → n ≤ rest.past + 1
+  none_low : (rest left : Rest) (broken : List BrokenPart) (last : Part) (n : ℕ) → AreParts (in_parts profile) rest broken left → IsLast profile left last → n ≤ rest.past + 1
       → late_at (events_of broken ++ last.events) n ≡ 0
   none_low rest left [] last n none is low =
       let past : last.past ≡ rest.past = is.past ∙ ap (λ (x : Rest). x.past) none in
@@ -147,14 +147,14 @@ module _ (profile : Profile) where
     other : Part
     rest : List LineByte
     split : moved ≡ other.records ++ rest
-    is_part : IsPart profile other
+    is_part : IsPart (in_parts profile) other
     same : IsSamePart part other
     last : ℕ
     before : ℕ
     along : Along profile LeftAside part.records part.exchanges part.tail other.records other.exchanges other.tail last before
     behind : ComeInTime late (part.past + length part.records) last before after rest
 
-  part_moved : (late : ℕ → ℕ) (last before : ℕ) (part : Part) (after moved : List LineByte) → IsPart profile part
+  part_moved : (late : ℕ → ℕ) (last before : ℕ) (part : Part) (after moved : List LineByte) → IsPart (in_parts profile) part
       → ((n : ℕ) → part.past < n → n ≤ part.past + length part.records → late n ≡ late_at part.events n) → ComeInTime late part.past last before (part.records ++ after) moved
       → PartMoved late part after moved
   part_moved late last before part after moved is agrees come =
@@ -179,7 +179,7 @@ module _ (profile : Profile) where
     pub others : List BrokenPart
     pub behind : Rest
     pub end : Part
-    pub parts : AreParts profile rest others behind
+    pub parts : AreParts (in_parts profile) rest others behind
     pub is_last : IsLast profile behind end
     pub same : AreSameParts broken others
     pub same_end : IsSamePart last end
@@ -197,7 +197,7 @@ module _ (profile : Profile) where
       by true begins is = inl (begins, λ none. (let one : late_at (late_reply (number_of b) b.part.tail b.breaking ∷ []) (number_of b) ≡ 1 = grind (arith, nat_tests) in omega (arith, is, one, none)))
       by false early is = inr (early, is)
 
-  pub parts_moved : (late : ℕ → ℕ) (rest left moved : Rest) (broken : List BrokenPart) (last : Part) → AreParts profile rest broken left → IsLast profile left last
+  pub parts_moved : (late : ℕ → ℕ) (rest left moved : Rest) (broken : List BrokenPart) (last : Part) → AreParts (in_parts profile) rest broken left → IsLast profile left last
       → RestMoved late rest moved → ((n : ℕ) → rest.past < n → late n ≡ late_at (events_of broken ++ last.events) n) → PartsMoved moved broken last
   parts_moved late rest left moved [] last none is (last_us, before_us, place, come) agrees =
       let records : rest.records ≡ last.records ++ [] = ap (λ (x : Rest). x.records) (sym none) ∙ sym is.has_all ∙ sym (append-nil last.records) in
@@ -252,7 +252,7 @@ module _ (profile : Profile) where
           m.is_part,
           break_moved profile LeftAside b.part.records b.part.exchanges b.part.tail m.other.records m.other.exchanges m.other.tail m.last m.before (late (number_of b)) b.breaking s b.reason m.along c breaks,
           never_late profile LeftAside b.part.records b.part.exchanges b.part.tail m.other.records m.other.exchanges m.other.tail m.last m.before (late (number_of b)) b.breaking s m.along c,
-          subst (λ k. AreParts profile (rest_after k b.reason s m.behind.1) on.others on.behind) at on.parts,
+          subst (λ k. AreParts (in_parts profile) (rest_after k b.reason s m.behind.1) on.others on.behind) at on.parts,
         );
         is_last = on.is_last;
         same = (broke, on.others, refl, m.same, refl, refl, on.same);
@@ -305,9 +305,9 @@ totals_moved items moved broken others last end totals number parts same are =
 -- ---- the capture whose late replies come in time
 
 pub in_time_parts : (profile : Profile) (items moved : List LineByte) (broken : List BrokenPart) (left : Rest) (last : Part) (totals : Totals)
-    → AreParts profile (record { past = 0; records = items }) broken left → IsPart profile last → last.past ≡ left.past → last.records ≡ left.records
+    → AreParts (in_parts profile) (record { past = 0; records = items }) broken left → IsPart (in_parts profile) last → last.past ≡ left.past → last.records ≡ left.records
     → AreTotals (length items) broken last totals → ComeInTime (late_at (events_of broken ++ last.events)) 0 0 0 items moved
-    → (others : List BrokenPart) × (behind : Rest) × (end : Part) × AreParts profile (record { past = 0; records = moved }) others behind × IsPart profile end
+    → (others : List BrokenPart) × (behind : Rest) × (end : Part) × AreParts (in_parts profile) (record { past = 0; records = moved }) others behind × IsPart (in_parts profile) end
     × (end.past ≡ behind.past) × (end.records ≡ behind.records) × AreSameParts broken others × IsSamePart last end
     × AreTotals (length moved) others end (record totals { breaks = length broken })
 in_time_parts profile items moved broken left last totals parts part past all are come =

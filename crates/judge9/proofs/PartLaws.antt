@@ -3,9 +3,10 @@ use Rattle.judge9.proofs.Words.{late_replies, TellsLate, LineRules, counting, li
 use Rattle.judge9.proofs.Words.{IsOk, IsPart, length, LineByte, List, may_begin, number_of, Option, Part, Reason, refl, Rest, rest_after, same_parts, Some, sym, true, ℕ, ◌++◌, ◌+◌, ◌∙◌, ◌∷◌, ◌≡◌}
 use Rattle.std.proofs.lemmas.List.{drop-drop}
 use Rattle.std.proofs.Math.Seq.{drop-append_seam}
-use Rattle.verdict9.specs.declared.totals.Totals.{Totals}
+use Rattle.report9.specs.declared.totals.Totals.{Totals}
 use Rattle.judge9.proofs.CountingSteps.{cut_counts_all}
 use Rattle.judge9.proofs.EventSteps.{events_once}
+use Rattle.judge9.proofs.FirstBreak.{breaks_in_time, reason_told}
 use Rattle.judge9.proofs.LawLemmas.{break_once, no_break}
 use Rattle.judge9.proofs.LineSteps.{cut_len}
 
@@ -39,23 +40,36 @@ rest_after_rest items n reason breaking after is next = by (begins_next_part rea
     by true begins = rw begins is
     by false none = rw none (from_command_rest items (n + 1) (Some breaking) after next)
 
--- a part is the no of the capture that begins with it
-abbrev pub IsOwnNo : Profile → List LineByte → BrokenPart → Type 0
-IsOwnNo profile items b = IsFirstBreak (in_parts profile) (drop b.part.past items) (length b.part.records + 1) b.reason
-
-pub each_is_a_no : (profile : Profile) (items : List LineByte) (rest : Rest) (broken : List BrokenPart) (left : Rest) → IsRestOf items rest
-    → AreParts profile rest broken left → All (IsOwnNo profile items) broken
-each_is_a_no profile items rest [] left is parts = All-nil (IsOwnNo profile items)
-each_is_a_no profile items rest (b ∷ broken) left is (after, same, part, breaks, tells, others) =
+-- what holds of each part by itself, of the capture that begins with it
+each_of : (profile : Profile) (items : List LineByte) (P : BrokenPart → Type 0)
+    → ((b : BrokenPart) (after : List LineByte) → drop b.part.past items ≡ b.part.records ++ b.breaking ∷ after → IsPart (in_parts profile) b.part
+    → Breaks (in_parts profile) b.part.records b.breaking b.reason → TellsLate (line_rules (in_parts profile)) b.part.tail b.breaking b.late → P b)
+    → (rest : Rest) (broken : List BrokenPart) (left : Rest) → IsRestOf items rest → AreParts (in_parts profile) rest broken left → All P broken
+each_of profile items P holds rest [] left is parts = All-nil P
+each_of profile items P holds rest (b ∷ broken) left is (after, same, part, breaks, tells, others) =
     let records : b.part.records ++ b.breaking ∷ after ≡ drop b.part.past items = rw same at is in
     let next = behind items b.part.past b.part.records b.breaking after records in
     let on = rest_after_rest items (b.part.past + length b.part.records) b.reason b.breaking after next.0 next.1 in
-    let no : IsOwnNo profile items b = record { before = b.part.records; next = b.breaking; after = after; split = sym records; number = refl; breaks = breaks } in
-    All-cons (IsOwnNo profile items) b broken no
-    (each_is_a_no profile items (rest_after (b.part.past + length b.part.records) b.reason b.breaking after) broken left on others)
+    All-cons P b broken (holds b after (sym records) part breaks tells)
+    (each_of profile items P holds (rest_after (b.part.past + length b.part.records) b.reason b.breaking after) broken left on others)
+
+-- a part is the no of the capture that begins with it
+pub each_is_a_no : (profile : Profile) (items : List LineByte) (broken : List BrokenPart) (left : Rest) → AreParts (in_parts profile) (record { past = 0; records = items }) broken left
+    → All (λ b. IsFirstBreak (in_parts profile) (drop b.part.past items) (length b.part.records + 1) b.reason) broken
+each_is_a_no profile items broken left parts =
+    each_of profile items (λ b. IsFirstBreak (in_parts profile) (drop b.part.past items) (length b.part.records + 1) b.reason)
+    (λ b after split part breaks tells. record { before = b.part.records; next = b.breaking; after = after; split = split; number = refl; breaks = breaks }) (record { past = 0; records = items }) broken left refl parts
+
+-- where no reply of it is late, also as the reply limit counts
+pub each_in_time_is_a_no : (profile : Profile) (items : List LineByte) (broken : List BrokenPart) (left : Rest) → AreParts (in_parts profile) (record { past = 0; records = items }) broken left
+    → All (λ b. late_replies b.part.events ≡ 0 → IsFirstBreak (counting profile) (drop b.part.past items) (length b.part.records + 1) (reason_told profile b)) broken
+each_in_time_is_a_no profile items broken left parts =
+    each_of profile items (λ b. late_replies b.part.events ≡ 0 → IsFirstBreak (counting profile) (drop b.part.past items) (length b.part.records + 1) (reason_told profile b))
+    (λ b after split part breaks tells none. record { before = b.part.records; next = b.breaking; after = after; split = split; number = refl; breaks = breaks_in_time profile b part breaks tells none })
+    (record { past = 0; records = items }) broken left refl parts
 
 pub first_is_a_no : (profile : Profile) (items : List LineByte) (b : BrokenPart) (broken : List BrokenPart) (left : Rest)
-    → AreParts profile (record { past = 0; records = items }) (b ∷ broken) left → IsFirstBreak (in_parts profile) items (number_of b) b.reason
+    → AreParts (in_parts profile) (record { past = 0; records = items }) (b ∷ broken) left → IsFirstBreak (in_parts profile) items (number_of b) b.reason
 first_is_a_no profile items b broken left (after, same, part, breaks, tells, others) = record {
   before = b.part.records;
   next = b.breaking;
@@ -66,7 +80,7 @@ first_is_a_no profile items b broken left (after, same, part, breaks, tells, oth
 }
 
 pub counts_of_a_yes : (profile : Profile) (items : List LineByte) (left : Rest) (last : Part) (totals : Totals)
-    → AreParts profile (record { past = 0; records = items }) [] left → IsPart profile last → last.records ≡ left.records → AreTotals (length items) [] last totals
+    → AreParts (in_parts profile) (record { past = 0; records = items }) [] left → IsPart (in_parts profile) last → last.records ≡ left.records → AreTotals (length items) [] last totals
     → totals.breaks ≡ 0 → AreCounts (counting profile) items totals.records totals.exchanges totals.tail × (totals.passed_over ≡ 0)
 counts_of_a_yes profile items left last totals parts part all are none =
     let same : last.records ≡ items = all ∙ ap (λ (x : Rest). x.records) parts in
@@ -88,7 +102,7 @@ counts_of_a_yes profile items left last totals parts part all are none =
 
 -- the last part keeps the rules, and has all that is left
 pub record IsLast (profile : Profile) (left : Rest) (last : Part) : Type 0 where
-  pub is_part : IsPart profile last
+  pub is_part : IsPart (in_parts profile) last
   pub past : last.past ≡ left.past
   pub has_all : last.records ≡ left.records
 
@@ -120,15 +134,15 @@ late_once rules t r false true h k = absurd (h k)
 totals_by_fields : (a b : Totals) → a.breaks ≡ b.breaks → a.records ≡ b.records → a.exchanges ≡ b.exchanges → a.passed_over ≡ b.passed_over → a.tail ≡ b.tail → a ≡ b
 totals_by_fields a b breaks records exchanges passed tail = grind arith
 
-same_part : (profile : Profile) (some other : Part) → IsPart profile some → IsPart profile other → some.past ≡ other.past → some.records ≡ other.records
+same_part : (profile : Profile) (some other : Part) → IsPart (in_parts profile) some → IsPart (in_parts profile) other → some.past ≡ other.past → some.records ≡ other.records
     → some ≡ other
 same_part profile some other is also past records =
     let cut = cut_once (line_rules (in_parts profile)) other.records some.exchanges other.exchanges some.tail other.tail (rw records at is.cut) also.cut in
     let events = events_once (line_rules (in_parts profile)) other.past [] [] other.records some.events other.events (rw (past, records) at is.are_events) also.are_events in
     part_by_fields some other past records cut.0 cut.1 events
 
-pub one_list : (profile : Profile) (rest left remaining : Rest) (broken others : List BrokenPart) (last other : Part) → AreParts profile rest broken left
-    → IsLast profile left last → AreParts profile rest others remaining → IsLast profile remaining other → (broken ≡ others) × (last ≡ other)
+pub one_list : (profile : Profile) (rest left remaining : Rest) (broken others : List BrokenPart) (last other : Part) → AreParts (in_parts profile) rest broken left
+    → IsLast profile left last → AreParts (in_parts profile) rest others remaining → IsLast profile remaining other → (broken ≡ others) × (last ≡ other)
 one_list profile rest left remaining [] [] last other p is q also = (
   refl,
   same_part profile last other is.is_part also.is_part (is.past ∙ ap (λ (x : Rest). x.past) (p ∙ sym q) ∙ sym also.past)

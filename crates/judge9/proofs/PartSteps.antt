@@ -1,7 +1,7 @@
 -- What is passed over after a break, where the next part begins, and what a judging of all parts comes to.
-use Rattle.judge9.proofs.Words.{[], ap, append-nil, append_assoc, AreGiven, arith, Beginning, Bool, false, from_command, given-more, given-none, GivesAll, GivesRecord, inl, inr, IsFresh, judged_from, Judging, last_of, length, LineByte}
-use Rattle.judge9.proofs.Words.{List, may_begin, None, NoneBegins, Option, Progress, refl, Rest, Rows, rows_allowed, Some, Standing, subst, Terms, true, ℕ, ◌++◌, ◌+◌, ◌∙◌, ◌∷◌, ◌≡◌, ◌≤◌, ◌⊎◌}
-use Rattle.judge9.proofs.SoFar.{read-more, unread, WereRead}
+use Rattle.judge9.proofs.Words.{[], ap, append-nil, append_assoc, AreRead, arith, Beginning, Bool, false, from_command, GivesAll, GivesRecord, inl, inr, judged_from, last_of, length, LineByte}
+use Rattle.judge9.proofs.Words.{List, may_begin, None, NoneBegins, Option, Progress, refl, Rest, Rows, Some, subst, true, ℕ, ◌++◌, ◌+◌, ◌∙◌, ◌∷◌, ◌≡◌, ◌≤◌, ◌⊎◌}
+use Rattle.judge9.proofs.ReadSteps.{read_next}
 
 -- ---- records that were given one after another
 
@@ -11,34 +11,12 @@ pub gives-more : {R : Type 0} (old mid new : Progress R) {r : LineByte} (records
 gives-more old mid new [] all gives = (new, rw all at gives, refl)
 gives-more old mid new (x ∷ records) all gives = (all.0, all.1, gives-more all.0 mid new records all.2 gives)
 
--- what the rows tell of them, of which there may be so many
-pub record AreRead {R : Type 0} (limit : ℕ) (rows : Option Rows) (items : List LineByte) (progress : Progress R) : Type 0 where
-  pub is_reading : progress.standing ≡ Standing.Reading
-  pub read : WereRead rows items progress.rows
-  pub are_given : AreGiven limit items progress
-
--- before the first
-pub read_none : {R : Type 0} {terms : Terms} {j : Judging R} → IsFresh terms j → AreRead (rows_allowed terms.reply_limit) j.rows.rows [] j.rows
-read_none {terms = terms} {j = j} fresh = record {
-  is_reading = fresh.is_reading;
-  read = unread j.rows.rows;
-  are_given = given-none (rows_allowed terms.reply_limit) j.rows fresh.limit fresh.none_given fresh.no_time;
-}
-
-pub read_one : {R : Type 0} {limit : ℕ} (rows : Option Rows) (items : List LineByte) (old new : Progress R) (r : LineByte) → AreRead limit rows items old
-    → GivesRecord old r new → AreRead limit rows (items ++ r ∷ []) new
-read_one rows items old new r h gives = record {
-  is_reading = gives.is_reading;
-  read = read-more rows old.rows new.rows items r h.read gives.rows;
-  are_given = given-more items old new r h.are_given gives;
-}
-
 pub read_all : {R : Type 0} {limit : ℕ} (rows : Option Rows) (items : List LineByte) (old new : Progress R) (records : List LineByte) → AreRead limit rows items old
     → GivesAll old records new → AreRead limit rows (items ++ records) new
 read_all rows items old new [] h all = rw (all, append-nil) h
 read_all {limit = limit} rows items old new (r ∷ records) h all =
     subst (λ l. AreRead limit rows l new) (append_assoc items (r ∷ []) records)
-    (read_all rows (items ++ r ∷ []) all.0 new records (read_one rows items old all.0 r h all.1) all.2)
+    (read_all rows (items ++ r ∷ []) all.0 new records (read_next rows items old all.0 r h all.1) all.2)
 
 pub none_fewer : {R : Type 0} (old new : Progress R) (records : List LineByte) → GivesAll old records new → old.given ≤ new.given
 none_fewer old new [] all = rw all (omega arith)

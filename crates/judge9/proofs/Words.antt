@@ -5,8 +5,7 @@ pub use Rattle.block9.proofs.LineLemmas.{same_parts}
 pub use Rattle.block9.proofs.OrderLemmas.{first_before_last, first_holds, first_once, last_is_first, rank, rank_low, rank_once}
 pub use Rattle.block9.proofs.StepLemmas.{still_tail, tail_short}
 pub use Rattle.block9.proofs.TailLemmas.{last_time-append}
-pub use Rattle.verdict9.specs.OpenRecords.{IsBefore}
-pub use Rattle.verdict9.specs.declared.why_verdict.EndedExchange.{EndedExchange}
+pub use Rattle.report9.specs.declared.why_no.EndedExchange.{EndedExchange}
 pub use Rattle.block9.specs.Command.{meaning_in, Row}
 unfoldable pub use Rattle.block9.specs.Command.{command_of}
 pub use Rattle.block9.specs.Exchange.{BeginsLate, Does, IsExchange, IsKept, IsTail, step_of, tail_after, TellsLate}
@@ -39,30 +38,18 @@ pub use Rattle.deck9.specs.declared.mode.Mode.{Mode}
 pub use Rattle.deck9.specs.declared.state.Hands.TheVariants.{the_data as Hands}
 pub use Rattle.deck9.specs.declared.state.Register.TheVariants.{the_data as Register}
 pub use Rattle.judge9.specs.Judging.{Answer, answer_of, IsAnswer, IsAnswerFrom, IsOkBefore, IsTheAnswer, moved_by}
-pub use Rattle.verdict9.specs.declared.verdict.Beginning.TheVariants.{the_data as Beginning}
-pub use Rattle.judge9.specs.Report.{AreLines, explained_of, IsExplained, IsText, IsVerdictAfter, last_line, Written}
+pub use Rattle.report9.specs.declared.verdict.Beginning.TheVariants.{the_data as Beginning}
 pub use Rattle.judge9.specs.Verdict.{Applies, AreCounts, Breaks, CanBeVerdict, counting, IsFirstBreak, IsOk, line_rules, Terms}
 pub use Rattle.why9.specs.Shown.{CouldShow}
-pub use Rattle.judge9.specs.Working.{[], All, Appends, AppendsPart, AreReached, Bool, BreaksAtLast, Break, CanBeResult, CaptureError, CaptureKind, Cut, Ends, Err, Exchange, Follower}
-pub use Rattle.judge9.specs.Working.{Explains, Goes, false, GivesEnd, GivesRecord, GivesRefusal, Profile, IfErr, IfOk, IfSome, IsBreakAfter, IsKnowledge, IsLineOf, IsSame}
-pub use Rattle.judge9.specs.Working.{JudgeError, Judges, Judging, Knowledge, last_state, length, line_of_exchange, LineByte, List, None, Ok, Option, Possible, Puts, Reason}
-pub use Rattle.judge9.specs.Working.{Refuses, refusal_of, Result, reverse, Rows, slice_get, Some, Standing, State, Outcome, RunVerdict, StoppedBefore, suc, take, Takes, Told, Tracked, true}
-pub use Rattle.judge9.specs.Working.{HasItsRun, HasItsWhy, IsTrue, judged_of, Turn, Verdict, verdict_at, WhyVerdict, View, zero, ℕ, ⊤}
 pub use Rattle.block9.proofs.TailLemmas.{last_time-append}
 pub use Rattle.block9.specs.Line.{last_time}
-pub use Rattle.judge9.specs.Working.Endings.{IsEnd, JudgesRun, JudgesWhy}
 pub use Rattle.track9.specs.Following.{KeepsEnds}
 pub use Rattle.judge9.specs.Beginning.{begins_next_part, from_command, judged_from, judged_rows, may_begin, passed_before, Rest, rest_after, takes_up_at}
 pub use Rattle.judge9.specs.Parts.{AreParts, AreTotals, BrokenPart, exchanges_of, in_parts, IsPart, number_of, Part}
 pub use Rattle.judge9.specs.Parts.{AreEvents, Event, events_by, events_in, events_of, exchanges_after, late_replies}
-pub use Rattle.judge9.specs.PartsReport.{AreTextsOf, InParts, IsEndText, IsEventText, SaysLate, PartsTold, IsRefusedAfter, IsTextOf, IsToTheEnd, ToldInParts, WrittenInParts}
 pub use Rattle.block9.specs.Exchange.{records_in}
 pub use Rattle.report9.specs.WhyText.{text_of_why}
 pub use Rattle.judge9.specs.Working.Beginnings.{BeginsAfter, BeginsAt, ComesFirst, ComesThen, GivesAll, last_of, NoneBegins, PassesOver, Resumes, ResumesAfter, TakesUp}
-pub use Rattle.judge9.specs.Working.Parts.{IsBreakText, IsLateBefore, IsPutBreak, SaysNoRun, SaysWhy, JudgesParts}
-pub use Rattle.judge9.specs.Working.Turns.{AreOpen, BeginsReplyLate, Comes, Completes, ComesTo, EndsRows, IsFresh, IsObserved, IsOpen, KnowsNothing, Observes, rows_allowed, Spoils, Took, Turned, Waits}
-pub use Rattle.judge9.specs.declared.part.PartLog.{PartLog}
-pub use Rattle.judge9.specs.Working.Part.{GoesThrough, IsAtExchange, IsAtLate, IsJudgedFirst, IsJudgedPart, IsLateText, IsLogOf, IsLogged, IsLoggedLate, TellsAt, TellsLateAt, TellsNot, TellsTurn, turn_of}
 pub use Rattle.std.proofs.Common.{ap, arith, drop, get_or, if◌then◌else◌, inl, inr, length-append, OnOk, option_map, refl, slice_range, subst, sym, take-add}
 pub use Rattle.std.proofs.Common.{◌*◌, ◌+◌, ◌++◌, ◌-◌, ◌/◌, ◌<◌, ◌^◌, ◌↔◌, ◌∙◌, ◌∷◌, ◌≡◌, ◌≢◌, ◌≤◌, ◌⊎◌}
 pub use Rattle.std.proofs.KnownBytes.{Appends-nil, Appends-trans}
@@ -76,14 +63,34 @@ pub use Rattle.std.specs.Option.{ForSome, IfNone}
 pub use Rattle.std.specs.Result.{IsErrAnd}
 pub use Rattle.tc25.specs.Day.{day, time_of}
 pub use Rattle.block9.specs.declared.line_rules.LineRules.{LineRules}
-pub use Rattle.text9.proofs.WriteLemmas.{first_part, part_after}
+pub use Rattle.report9.proofs.WriteLemmas.{first_part, part_after}
 pub use Rattle.track9.proofs.OneKnowledge.{known_of_ends, knowledge_same}
 pub use Rattle.deck9.specs.Knowledge.{IsKnown, IsKnownEntry}
 pub use Rattle.deck9.specs.ModeSet.{has}
 pub use Rattle.deck9.specs.declared.knowledge.Known.TheVariants.{the_data as Known}
 pub use Rattle.deck9.specs.declared.knowledge.KnownEntry.TheVariants.{the_data as KnownEntry}
 pub use Rattle.deck9.specs.declared.mode_set.ModeSet.{ModeSet}
-pub use Rattle.verdict9.specs.Error.{refusal_by}
+pub use Rattle.report9.specs.Error.{refusal_by}
 pub use Rattle.block9.specs.Exchange.{records_in, records_of}
-pub use Rattle.verdict9.specs.Lines.{line_of}
-pub use Rattle.text9.specs.declared.detail.Detail.{Detail}
+pub use Rattle.report9.specs.Lines.{line_of}
+pub use Rattle.report9.specs.declared.detail.Detail.{Detail}
+pub use Rattle.judge9.specs.Working.{[], All, Appends, AppendsPart, AreReached, Bool, BreaksAtLast, Break, CanBeResult, CaptureError, CaptureKind, Cut, Ends, Err, Exchange, false, Feed, Follower}
+pub use Rattle.judge9.specs.Working.{GivesEnd, GivesRecord, GivesRefusal, Goes, IfErr, IfOk, IfSome, IsKnowledge, IsTrue, JudgeError, Knowledge, last_state, length, line_of_exchange, LineByte}
+pub use Rattle.judge9.specs.Working.{List, None, Ok, Option, Outcome, Possible, Profile, Reason, Refuses, refusal_of, Result, reverse, Rows, RunVerdict, slice_get, Some, Standing, State}
+pub use Rattle.judge9.specs.Working.{StoppedBefore, suc, take, Takes, Tracked, true, Turn, Verdict, View, zero, ℕ, ⊤}
+pub use Rattle.judge9.specs.Working.Turns.{AreOpen, BeginsReplyLate, Comes, Completes, ComesTo, EndsRows, IsFresh, IsObserved, IsOpen, KnowsNothing, Observes, Spoils, Took, Turned, Waits}
+pub use Rattle.judge9.specs.Events.{AreRead, ComesToEnd, IsRefused, IsSilent, Reached, ShowsBreak, Tells, TellsBreak, TellsExchange, TellsLate as TellsLateReply, WereGiven, WereRead}
+pub use Rattle.judge9.specs.History.{History, IsBesides, IsHistory, no_part, nothing_told, told_in}
+pub use Rattle.judge9.specs.Parts.{besides_of, TellsBesides}
+pub use Rattle.judge9.specs.Standing.{Advances, AreCounted, CanGoOn, Fits, GoesOn, GrowsBy, InPart, late_besides, IsAtBreak, IsBehind, IsMarked, IsWithin, left_of, Marks, MarksBreak, Next, ShowsExchange, Stands, StandsAt, Stops, TakesUpMarked, weight}
+pub use Rattle.judge9.specs.Verdict.{reply_limit_of, rows_allowed, terms_for}
+pub use Rattle.judge9.specs.Working.{WhyNo}
+pub use Rattle.judge9.specs.Working.Telling.{IsEnd, IsKept as KeepsTold, IsTextOf, IsTold, Puts, SaysNoRun, SaysWhy}
+pub use Rattle.judge9.specs.Why.{IsWhy, SaysLate}
+pub use Rattle.judge9.specs.Report.{AreTextsOf, by_totals, by_verdict, Ending, IsBreakText, IsEnding, IsEventText, IsPartText, IsRefusedAfter, IsToFirstBreak, IsToldText, IsToTheEnd, last_line, Told, Written}
+pub use Rattle.report9.specs.Lines.{line_of_totals}
+pub use Rattle.report9.specs.OpenRecords.{IsBefore}
+pub use Rattle.report9.specs.WhyText.{text_of_why}
+pub use Rattle.report9.specs.declared.verdict.Scope.{Scope}
+pub use Rattle.report9.specs.declared.verdict.Extent.TheVariants.{the_data as Extent}
+pub use Rattle.judge9.specs.Report.{IsEndingOf, IsText, IsToTheFault}

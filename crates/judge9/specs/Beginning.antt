@@ -5,8 +5,8 @@ use Rattle.capture9.specs.Rows.{Rows}
 use Rattle.block9.specs.declared.reason.Reason.{Reason}
 use Rattle.block9.specs.declared.reason.Reason.TheVariants.{ByteGap, CommandBeforeReply, CommandInsideReply, NoReply}
 use Rattle.block9.specs.Line.{byte_gap, is_commands_wire}
-use Rattle.verdict9.specs.declared.verdict.Beginning.{Beginning}
-use Rattle.verdict9.specs.declared.verdict.Beginning.TheVariants.{FirstCommand, FirstRecord}
+use Rattle.report9.specs.declared.verdict.Beginning.{Beginning}
+use Rattle.report9.specs.declared.verdict.Beginning.TheVariants.{FirstCommand, FirstRecord}
 
 -- a record that comes after `last` may be the first of a command: it comes on the controller's wire, and after a record of the
 -- deck or after the byte gap. The first record of a capture never may: nobody knows what came before it

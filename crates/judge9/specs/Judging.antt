@@ -1,19 +1,19 @@
 -- The answer to a text: a verdict on its records, or the fault for which it can't be read to its end. And what
 -- a result of `judge` tells of it.
-use Rattle.std.specs.Prelude.{◌≡◌, ◌≢◌, ⊤, ℕ, ◌+◌, ◌≤◌, IsTrue, List, Option, Some, None, Result, Ok, Err, if◌then◌else◌}
+use Rattle.std.specs.Prelude.{◌≡◌, ◌≢◌, ⊤, ℕ, ◌+◌, ◌≤◌, IsTrue, List, Option, Some, None, Result, Ok, Err, IfSome, IfErr, if◌then◌else◌}
 use Rattle.capture9.specs.declared.error.CaptureError.{CaptureError}
 use Rattle.capture9.specs.declared.error.CaptureKind.TheVariants as kind
 use Rattle.capture9.specs.declared.line_byte.LineByte.{LineByte}
 use Rattle.capture9.specs.Capture.{IsStartOf}
 use Rattle.capture9.specs.Error.{IsAfter, IsAtItsRow, is_of_text}
 use Rattle.capture9.specs.Fields.{most_rows}
-use Rattle.capture9.specs.Rows.{HasHeader, Rows}
+use Rattle.capture9.specs.Rows.{HasHeader, Rows, rows_of}
 use Rattle.deck9.specs.declared.profile.Profile.{Profile}
-use Rattle.verdict9.specs.declared.error.JudgeError.{JudgeError}
-use Rattle.verdict9.specs.declared.error.JudgeError.TheVariants as error
-use Rattle.verdict9.specs.declared.verdict.Verdict.{Verdict}
-use Rattle.verdict9.specs.declared.verdict.Verdict.TheVariants as verdict
-use Rattle.verdict9.specs.declared.verdict.Beginning.{Beginning}
+use Rattle.report9.specs.declared.error.JudgeError.{JudgeError}
+use Rattle.report9.specs.declared.error.JudgeError.TheVariants as error
+use Rattle.report9.specs.declared.verdict.Verdict.{Verdict}
+use Rattle.report9.specs.declared.verdict.Verdict.TheVariants as verdict
+use Rattle.report9.specs.declared.verdict.Beginning.{Beginning}
 use Rattle.judge9.specs.Beginning.{judged_from, judged_rows, passed_before}
 use Rattle.judge9.specs.Verdict.{AreCounts, CanBeVerdict, IsFirstBreak, IsOk, counting}
 
@@ -80,3 +80,14 @@ CanBeResult (Ok v) = CanBeVerdict v
 CanBeResult (Err (error.Capture e)) = CanBeRefusal e
 CanBeResult (Err error.Write) = ⊤
 CanBeResult (Err error.OutOfMemory) = ⊤
+
+-- ---- what every judging up to the first break promises of its verdict
+
+-- of a capture whose text is given where it is known: a verdict or a fault of the text is the one right answer; where the reader
+-- failed, all records before keep the rules; a refusal is never told as a fault of the capture where memory ran out; and the result
+-- is one that some capture has
+pub record Answers (beginning : Beginning) (profile : Profile) (text : Option (List ℕ)) (result : Result Verdict JudgeError) : Type 0 where
+  pub answer : IfSome text (λ t. IfSome (answer_of result) (IsTheAnswer beginning profile (rows_of t)))
+  pub stopped : IfSome text (λ t. IfErr result (StoppedBefore beginning profile (rows_of t)))
+  pub is_kind : (e : CaptureError) → result ≡ Err (error.Capture e) → e.kind ≢ kind.OutOfMemory
+  pub can_be : CanBeResult result

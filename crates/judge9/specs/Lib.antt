@@ -2,10 +2,12 @@ pub mod Verdict
 pub mod Judging
 pub mod Beginning
 pub mod InTime
-pub mod Moved
+pub mod Renumbered
 pub mod Parts
-pub mod PartsReport
+pub mod History
+pub mod Events
+pub mod Standing
+pub mod Why
 pub mod Report
 pub mod RunVerdict
-pub mod WhyVerdict
 pub mod Working

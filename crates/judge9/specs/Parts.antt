@@ -1,23 +1,24 @@
 -- The parts that a capture is judged in where the judging goes on after each break. Each part is judged as a capture by itself:
 -- nothing is known of the deck where it begins. A late reply is told where it begins, and ends no part. Records keep the numbers
 -- that they have in the whole capture.
-use Rattle.std.specs.Prelude.{◌≡◌, ℕ, ◌+◌, Bool, if◌then◌else◌, List, [], ◌∷◌, ◌++◌, length}
+use Rattle.std.specs.Prelude.{◌≡◌, ℕ, ◌+◌, Bool, false, if◌then◌else◌, List, [], ◌∷◌, ◌++◌, length}
 use Rattle.capture9.specs.declared.line_byte.LineByte.{LineByte}
 use Rattle.block9.specs.declared.exchange.Exchange.{Exchange}
 use Rattle.block9.specs.declared.line_rules.LineRules.{LineRules}
-use Rattle.block9.specs.declared.line_rules.ReplyLimit.TheVariants.{LeftAside}
+use Rattle.block9.specs.declared.line_rules.ReplyLimit.{ReplyLimit}
+use Rattle.block9.specs.declared.line_rules.ReplyLimit.TheVariants.{Counts, LeftAside}
 use Rattle.block9.specs.declared.reason.Reason.{Reason}
 use Rattle.block9.specs.Exchange.{Cut, Does, Outcome, TellsLate, records_in, tail_after}
 use Rattle.block9.specs.Exchange.Outcome.{answers_late, asks, completes, leaves_open}
 use Rattle.deck9.specs.declared.profile.Profile.{Profile}
 use Rattle.deck9.specs.Run.{HasRun}
-use Rattle.verdict9.specs.declared.totals.Totals.{Totals}
+use Rattle.report9.specs.declared.totals.Totals.{Totals}
 use Rattle.judge9.specs.Beginning.{Rest, rest_after}
 use Rattle.judge9.specs.Verdict.{Breaks, Terms, line_rules, terms_of}
 
 -- ---- the parts
 
--- what a part is judged by: a late reply breaks a rule, which is told, and ends no part
+-- what the parts of a whole capture are judged by: a late reply breaks a rule, which is told, and ends no part
 abbrev pub in_parts : Profile → Terms
 in_parts profile = terms_of LeftAside profile
 
@@ -65,10 +66,15 @@ pub record Part : Type 0 where
   pub events : List Event
 
 -- they keep the rules
-pub record IsPart (profile : Profile) (part : Part) : Type 0 where
-  pub cut : Cut (line_rules (in_parts profile)) part.records part.exchanges part.tail
-  pub run : HasRun profile part.exchanges
-  pub are_events : AreEvents (line_rules (in_parts profile)) part.past [] [] part.records part.events
+pub record IsPart (terms : Terms) (part : Part) : Type 0 where
+  pub cut : Cut (line_rules terms) part.records part.exchanges part.tail
+  pub run : HasRun terms.profile part.exchanges
+  pub are_events : AreEvents (line_rules terms) part.past [] [] part.records part.events
+
+-- a record that breaks a rule after this tail begins a late reply besides, which is told where the reply limit is left aside
+abbrev pub TellsBesides : ReplyLimit → LineRules → List LineByte → LineByte → Bool → Type 0
+TellsBesides Counts rules tail r late = late ≡ false
+TellsBesides LeftAside rules tail r late = TellsLate rules tail r late
 
 -- a part that breaks: the records before the one that breaks a rule, this record, the reason, and whether the record begins a late
 -- reply besides
@@ -82,17 +88,21 @@ pub record BrokenPart : Type 0 where
 abbrev pub number_of : BrokenPart → ℕ
 number_of broken = broken.part.past + length broken.part.records + 1
 
+-- what is told of the record that breaks before its break
+abbrev pub besides_of : BrokenPart → List Event
+besides_of b = if b.late then late_reply (number_of b) b.part.tail b.breaking ∷ [] else []
+
 -- what is told of the part before its break
 abbrev pub events_in : BrokenPart → List Event
-events_in b = b.part.events ++ (if b.late then late_reply (number_of b) b.part.tail b.breaking ∷ [] else [])
+events_in b = b.part.events ++ besides_of b
 
 -- from the first of these records on the parts that break, one after another, and what is left after them
-abbrev pub AreParts : Profile → Rest → List BrokenPart → Rest → Type 0
-AreParts profile rest [] left = left ≡ rest
-AreParts profile rest (b ∷ broken) left =
-    (after : List LineByte) × (rest ≡ record { past = b.part.past; records = b.part.records ++ b.breaking ∷ after }) × IsPart profile b.part
-    × Breaks (in_parts profile) b.part.records b.breaking b.reason × TellsLate (line_rules (in_parts profile)) b.part.tail b.breaking b.late
-    × AreParts profile (rest_after (b.part.past + length b.part.records) b.reason b.breaking after) broken left
+abbrev pub AreParts : Terms → Rest → List BrokenPart → Rest → Type 0
+AreParts terms rest [] left = left ≡ rest
+AreParts terms rest (b ∷ broken) left =
+    (after : List LineByte) × (rest ≡ record { past = b.part.past; records = b.part.records ++ b.breaking ∷ after }) × IsPart terms b.part
+    × Breaks terms b.part.records b.breaking b.reason × TellsBesides terms.reply_limit (line_rules terms) b.part.tail b.breaking b.late
+    × AreParts terms (rest_after (b.part.past + length b.part.records) b.reason b.breaking after) broken left
 
 -- ---- what is counted
 

@@ -1,100 +1,169 @@
 -- The text of a report, and how much of it was written.
-use Rattle.std.specs.Prelude.{◌≡◌, ◌⊎◌, ℕ, ◌+◌, ◌-◌, List, [], ◌∷◌, ◌++◌, length, take, Option, Result, Ok, Err}
+use Rattle.std.specs.Prelude.{◌≡◌, ◌⊎◌, ℕ, List, [], ◌∷◌, ◌++◌, length, IsTrue, Option, Some, None, Result, Ok, Err, ⊤}
 use Rattle.std.specs.Option.{IfNone, IfSome}
 use Rattle.std.specs.Io.KnownBytes.{Appends}
-use Rattle.capture9.specs.declared.line_byte.LineByte.{LineByte}
+use Rattle.capture9.specs.declared.error.CaptureError.{CaptureError}
 use Rattle.capture9.specs.Capture.{IsStartOf}
-use Rattle.capture9.specs.Error.{IsAfter}
-use Rattle.capture9.specs.Fields.{most_rows}
+use Rattle.capture9.specs.Error.{IsAfter, is_of_text}
 use Rattle.capture9.specs.Rows.{Rows}
 use Rattle.capture9.specs.SomeText.{IsOfSomeText}
-use Rattle.block9.specs.declared.exchange.Exchange.{Exchange}
-use Rattle.block9.specs.Exchange.{Cut}
+use Rattle.block9.specs.declared.reason.Reason.TheVariants.{LateReply}
+use Rattle.deck9.specs.Knowledge.{IsKnowledge}
+use Rattle.deck9.specs.Run.{Ends}
 use Rattle.deck9.specs.declared.knowledge.Knowledge.{Knowledge}
 use Rattle.deck9.specs.declared.profile.Profile.{Profile}
-use Rattle.deck9.specs.Knowledge.{IsKnowledge}
-use Rattle.deck9.specs.Run.{Ends, HasRun}
-use Rattle.block9.specs.Exchange.{records_of}
-use Rattle.verdict9.specs.Lines.{line_of}
-use Rattle.verdict9.specs.declared.error.JudgeError.{JudgeError}
-use Rattle.verdict9.specs.declared.error.JudgeError.TheVariants as error
-use Rattle.verdict9.specs.declared.verdict.Verdict.{Verdict}
-use Rattle.verdict9.specs.declared.verdict.Verdict.TheVariants.{Yes, No}
-use Rattle.verdict9.specs.declared.verdict.View.{View}
-use Rattle.verdict9.specs.declared.verdict.View.TheVariants as view
-use Rattle.text9.specs.declared.detail.Detail.{Detail}
-use Rattle.text9.specs.Explanation.{line_of_exchange}
-use Rattle.text9.specs.Writing.{AppendsPart}
-use Rattle.verdict9.specs.declared.verdict.Beginning.{Beginning}
-use Rattle.judge9.specs.Beginning.{judged_from}
-use Rattle.judge9.specs.Judging.{Answer, IsAnswerFrom, IsTheAnswer, answer_of, moved_by}
-use Rattle.judge9.specs.Judging.Answer.{judged, unreadable}
-use Rattle.judge9.specs.Verdict.{counting, line_rules}
+use Rattle.report9.specs.Explanation.{line_of_exchange}
+use Rattle.report9.specs.Writing.{AppendsPart}
+use Rattle.report9.specs.WhyText.{text_of_why}
+use Rattle.report9.specs.Lines.{line_of, line_of_totals}
+use Rattle.report9.specs.declared.error.JudgeError.{JudgeError}
+use Rattle.report9.specs.declared.error.JudgeError.TheVariants as error
+use Rattle.report9.specs.declared.totals.Totals.{Totals}
+use Rattle.report9.specs.declared.verdict.Extent.{Extent}
+use Rattle.report9.specs.declared.verdict.Extent.TheVariants.{FirstBreak, WholeCapture}
+use Rattle.report9.specs.declared.verdict.Scope.{Scope}
+use Rattle.report9.specs.declared.verdict.Verdict.{Verdict}
+use Rattle.report9.specs.declared.verdict.Verdict.TheVariants.{Yes, No}
+use Rattle.report9.specs.declared.verdict.View.{View}
+use Rattle.report9.specs.declared.verdict.View.TheVariants.{Explain, Why}
+use Rattle.report9.specs.declared.why_no.WhyNo.{WhyNo}
+use Rattle.judge9.specs.Beginning.{Rest}
+use Rattle.judge9.specs.History.{History, IsHistory, told_in}
+use Rattle.judge9.specs.Parts.{AreTotals, BrokenPart, Event, events_in, number_of}
+use Rattle.judge9.specs.Parts.Event.{exchange, late_reply}
+use Rattle.judge9.specs.Verdict.{Terms, line_rules, rows_allowed, terms_for}
+use Rattle.judge9.specs.Why.{IsWhy, SaysLate}
 
--- the lines of exchanges, each told so: `before` are those that come before them, and end with the record of this number; each
--- line names the exchange's last record, and shows what is known of all states that the runs up to it end in
-abbrev pub AreLines : Detail → Profile → List Exchange → ℕ → List Exchange → List ℕ → Type 0
-AreLines detail profile before at [] text = text ≡ []
-AreLines detail profile before at (e ∷ es) text =
-    (known : Knowledge) × (rest : List ℕ) × IsKnowledge (Ends profile (before ++ e ∷ [])) known
-    × AreLines detail profile (before ++ e ∷ []) (at + records_of e) es rest
-    × (text ≡ line_of_exchange detail profile (at + records_of e) e known ++ rest)
+-- ---- what is told
 
--- what a view shows of exchanges, before the verdict; so many records of the capture come before them
-abbrev pub IsExplained : View → Profile → ℕ → List Exchange → List ℕ → Type 0
-IsExplained view.Verdict profile past exchanges text = text ≡ []
-IsExplained (view.Explain detail) profile past exchanges text = AreLines detail profile [] past exchanges text
+-- the texts of all these, one after another, where this is the text of each
+abbrev pub AreTextsOf : {A : Type 0} → (A → List ℕ → Type 0) → List A → List ℕ → Type 0
+AreTextsOf IsText [] text = text ≡ []
+AreTextsOf IsText (x ∷ all) text =
+    (first : List ℕ) × (others : List ℕ) × IsText x first × AreTextsOf IsText all others × (text ≡ first ++ others)
 
--- the records whose exchanges a report explains: those before the break, and all where there is none
-abbrev pub explained_of : Rows → Answer → List LineByte
-explained_of rows (judged (Yes records exchanges tail)) = rows.records
-explained_of rows (judged (No at reason)) = take (at - 1) rows.records
-explained_of rows (unreadable e) = rows.records
+-- what is written of an event: where a late reply begins the line of its break, or why it is late; of an exchange what an explanation
+-- shows: what is known of all states that the runs up to it end in
+abbrev pub IsEventText : View → Terms → Event → List ℕ → Type 0
+IsEventText Why terms (late_reply at asked r) text = (why : WhyNo) × SaysLate (line_rules terms) at asked r why × (text ≡ text_of_why terms.profile why)
+IsEventText view terms (late_reply at asked r) text = text ≡ line_of (No at LateReply)
+IsEventText (Explain detail) terms (exchange at before e) text =
+    (known : Knowledge) × IsKnowledge (Ends terms.profile (before ++ e ∷ [])) known × (text ≡ line_of_exchange detail terms.profile at e known)
+IsEventText view terms (exchange at before e) text = text ≡ []
 
--- the last line of a report: the verdict's, and none for a text that can't be read to its end
-abbrev pub last_line : Answer → List ℕ
-last_line (judged v) = line_of v
-last_line (unreadable e) = []
+-- what is written at the break of a part: its line, or why the part breaks
+abbrev pub IsBreakText : View → Terms → BrokenPart → List ℕ → Type 0
+IsBreakText Why terms b text = (why : WhyNo) × IsWhy terms b why × (text ≡ text_of_why terms.profile why)
+IsBreakText view terms b text = text ≡ line_of (No (number_of b) b.reason)
 
--- the whole text of a report on these rows, of which this is the answer; so many records are passed over before them
-pub record IsText (which : View) (profile : Profile) (past : ℕ) (rows : Rows) (answer : Answer) (whole : List ℕ) : Type 0 where
-  pub exchanges : List Exchange
-  pub tail : List LineByte
-  pub cut : Cut (line_rules (counting profile)) (explained_of rows answer) exchanges tail
-  pub text : List ℕ
-  pub explained : IsExplained which profile past exchanges text
-  pub is_whole : whole ≡ text ++ last_line (moved_by past answer)
+-- what is written of a part that breaks
+abbrev pub IsPartText : View → Terms → BrokenPart → List ℕ → Type 0
+IsPartText view terms b text =
+    (lines : List ℕ) × (end : List ℕ) × AreTextsOf (IsEventText view terms) (events_in b) lines × IsBreakText view terms b end × (text ≡ lines ++ end)
 
--- a verdict where a yes counts those of these records that are judged, and a no is at the record after them
-abbrev pub IsVerdictAfter : Beginning → List LineByte → Verdict → Type 0
-IsVerdictAfter beginning items (Yes records exchanges tail) = records ≡ length (judged_from beginning items).records
-IsVerdictAfter beginning items (No at reason) = at ≡ length items + 1
+-- the text of all that was told
+pub record IsToldText (view : View) (terms : Terms) (h : History) (text : List ℕ) : Type 0 where
+  pub texts : List ℕ
+  pub are_texts : AreTextsOf (IsPartText view terms) h.broken texts
+  pub lines : List ℕ
+  pub are_lines : AreTextsOf (IsEventText view terms) (told_in h) lines
+  pub whole : text ≡ texts ++ lines
 
--- what was written, by the result, where of these records those that are judged keep the rules and `text` is what the view shows
--- of their exchanges: with a verdict the text and the verdict's line; at a refusal of the capture the text, and these records are
--- all those before its row; where the writer failed a first part of the text, or of the text and the right verdict's line; where
--- memory ran out the text
-abbrev pub Written : Beginning → Profile → Rows → List LineByte → List ℕ → Result Verdict JudgeError → Option (List ℕ) → Option (List ℕ) → Type 0
-Written beginning profile rows items text (Ok v) old new = IsVerdictAfter beginning items v × Appends old new (text ++ line_of v)
-Written beginning profile rows items text (Err (error.Capture e)) old new = IsAfter most_rows items e × Appends old new text
-Written beginning profile rows items text (Err error.Write) old new =
-    AppendsPart old new text ⊎ ((v : Verdict) × IsAnswerFrom beginning profile rows (judged v) × IsVerdictAfter beginning items v × AppendsPart old new (text ++ line_of v))
-Written beginning profile rows items text (Err error.OutOfMemory) old new = Appends old new text
+-- ---- how it ends
 
--- the rows that a judging speaks of, its answer for them, a first part of their records, of which those that are judged keep the
--- rules, and what it wrote. The rows are those of the text, where the reader tells its bytes; else they are what it gave, and are
--- those of some text
-pub record Told (which : View) (beginning : Beginning) (profile : Profile) (known : Option Rows) (result : Result Verdict JudgeError) (old new : Option (List ℕ)) : Type 0 where
+-- how a judging ends that was not refused: up to the first break with a verdict, over all parts with totals
+pub data Ending : Type 0 where
+  judged : Verdict → Ending
+  counted : Totals → Ending
+
+-- a judging of this extent ends so
+abbrev pub IsEndingOf : Extent → Ending → Type 0
+IsEndingOf FirstBreak (judged verdict) = ⊤
+IsEndingOf FirstBreak (counted totals) = ⊥
+IsEndingOf WholeCapture (judged verdict) = ⊥
+IsEndingOf WholeCapture (counted totals) = ⊤
+
+-- the last line: of a yes, and of totals; a no was told at its break
+abbrev pub last_line : Ending → List ℕ
+last_line (judged (Yes records exchanges tail)) = line_of (Yes records exchanges tail)
+last_line (judged (No at reason)) = []
+last_line (counted totals) = line_of_totals totals
+
+-- the rows have these records and no bad row, and all records were judged or passed over
+pub record IsToTheEnd (rows : Rows) (h : History) (left : Rest) : Type 0 where
+  pub all : rows ≡ record { records = h.items; fault = None }
+  pub all_judged : h.part.records ≡ left.records
+  pub none_besides : h.besides ≡ []
+
+abbrev pub IsEnding : Rows → History → Rest → Ending → Type 0
+IsEnding rows h left (judged (Yes records exchanges tail)) =
+    IsToTheEnd rows h left × (h.broken ≡ []) × (records ≡ length h.part.records) × (exchanges ≡ length h.part.exchanges) × (tail ≡ length h.part.tail)
+IsEnding rows h left (judged (No at reason)) = (b : BrokenPart) × (h.broken ≡ b ∷ []) × (at ≡ number_of b) × (reason ≡ b.reason)
+IsEnding rows h left (counted totals) = IsToTheEnd rows h left × AreTotals (length h.items) h.broken h.part totals
+
+-- where a judging ends with the first break, nothing was told or read after it
+abbrev pub IsToFirstBreak : History → Type 0
+IsToFirstBreak h =
+    (h.broken ≡ []) ⊎ ((b : BrokenPart) × (h.broken ≡ b ∷ []) × (length h.items ≡ number_of b) × (h.part.records ≡ []) × (told_in h ≡ []))
+
+-- the records are all those before the row of this refusal, and where it is a fault of the text, that is the fault of the rows
+pub record IsRefusedAfter (limit : ℕ) (rows : Rows) (h : History) (left : Rest) (e : CaptureError) : Type 0 where
+  pub place : IsAfter limit h.items e
+  pub all_judged : h.part.records ≡ left.records
+  pub none_besides : h.besides ≡ []
+  pub fault : IsTrue (is_of_text e.kind) → rows ≡ record { records = h.items; fault = Some e }
+
+-- ---- what was written
+
+-- by the result: the text and the last line; at a refusal of the capture the text; where the writer failed a first part of these;
+-- where memory ran out the text
+abbrev pub Written : Extent → Rows → History → Rest → List ℕ → Result Ending JudgeError → Option (List ℕ) → Option (List ℕ) → Type 0
+Written extent rows h left text (Ok end) old new = IsEnding rows h left end × Appends old new (text ++ last_line end)
+Written extent rows h left text (Err (error.Capture e)) old new = IsRefusedAfter (rows_allowed extent) rows h left e × Appends old new text
+Written extent rows h left text (Err error.Write) old new =
+    AppendsPart old new text ⊎ ((end : Ending) × IsEndingOf extent end × IsEnding rows h left end × AppendsPart old new (text ++ last_line end))
+Written extent rows h left text (Err error.OutOfMemory) old new = Appends old new text
+
+-- the rows that a judging speaks of, how far it came in them, and what was written. The rows are those of the text, where the reader
+-- tells its bytes; else they are what it gave, and are those of some text
+pub record Told (view : View) (scope : Scope) (profile : Profile) (known : Option Rows) (result : Result Ending JudgeError) (old new : Option (List ℕ)) : Type 0 where
   pub rows : Rows
   pub is_known : IfSome known (λ all. rows ≡ all)
-  pub of_a_text : IfNone known (IsOfSomeText most_rows rows)
-  pub answer : IfSome (answer_of result) (IsTheAnswer beginning profile rows)
-  pub items : List LineByte
-  pub start : IsStartOf items rows.records
-  pub exchanges : List Exchange
-  pub tail : List LineByte
-  pub cut : Cut (line_rules (counting profile)) (judged_from beginning items).records exchanges tail
-  pub run : HasRun profile exchanges
+  pub of_a_text : IfNone known (IsOfSomeText (rows_allowed scope.extent) rows)
+  pub history : History
+  pub start : IsStartOf history.items rows.records
+  pub is_history : IsHistory (terms_for scope.extent profile) scope.beginning history
+  pub first : scope.extent ≡ FirstBreak → IsToFirstBreak history
   pub text : List ℕ
-  pub explained : IsExplained which profile (judged_from beginning items).past exchanges text
-  pub written : Written beginning profile rows items text result old new
+  pub is_text : IsToldText view (terms_for scope.extent profile) history text
+  pub written : Written scope.extent rows history is_history.left text result old new
+
+-- the ending of a judging up to its first break, and of one over all parts
+abbrev pub by_verdict : Result Verdict JudgeError → Result Ending JudgeError
+by_verdict (Ok verdict) = Ok (judged verdict)
+by_verdict (Err e) = Err e
+
+abbrev pub by_totals : Result Totals JudgeError → Result Ending JudgeError
+by_totals (Ok totals) = Ok (counted totals)
+by_totals (Err e) = Err e
+
+-- ---- the whole text
+
+-- the rows have these records and then a bad row, and all records were judged or passed over
+pub record IsToTheFault (rows : Rows) (h : History) (left : Rest) : Type 0 where
+  pub fault : CaptureError
+  pub all : rows ≡ record { records = h.items; fault = Some fault }
+  pub all_judged : h.part.records ≡ left.records
+  pub none_besides : h.besides ≡ []
+
+-- the whole text of a report on these rows, where nothing fails: what is told of all of them, or up to the first break, and the last
+-- line; at a bad row what is told of all records before it
+pub record IsText (view : View) (scope : Scope) (profile : Profile) (rows : Rows) (whole : List ℕ) : Type 0 where
+  pub history : History
+  pub start : IsStartOf history.items rows.records
+  pub is_history : IsHistory (terms_for scope.extent profile) scope.beginning history
+  pub first : scope.extent ≡ FirstBreak → IsToFirstBreak history
+  pub text : List ℕ
+  pub is_text : IsToldText view (terms_for scope.extent profile) history text
+  pub ends : ((end : Ending) × IsEndingOf scope.extent end × IsEnding rows history is_history.left end × (whole ≡ text ++ last_line end))
+      ⊎ (IsToTheFault rows history is_history.left × (whole ≡ text))

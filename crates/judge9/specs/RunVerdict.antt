@@ -8,12 +8,12 @@ use Rattle.capture9.specs.Rows.{Rows}
 use Rattle.capture9.specs.SomeText.{IsOfSomeText}
 use Rattle.block9.specs.Exchange.{Cut}
 use Rattle.deck9.specs.declared.profile.Profile.{Profile}
-use Rattle.verdict9.specs.declared.error.JudgeError.{JudgeError}
-use Rattle.verdict9.specs.declared.run_verdict.RunVerdict.{RunVerdict}
-use Rattle.verdict9.specs.declared.run_verdict.RunVerdict.TheVariants as run
-use Rattle.verdict9.specs.declared.verdict.Verdict.{Verdict}
-use Rattle.verdict9.specs.declared.verdict.Verdict.TheVariants as verdict
-use Rattle.verdict9.specs.declared.verdict.Beginning.{Beginning}
+use Rattle.report9.specs.declared.error.JudgeError.{JudgeError}
+use Rattle.report9.specs.declared.run_verdict.RunVerdict.{RunVerdict}
+use Rattle.report9.specs.declared.run_verdict.RunVerdict.TheVariants as run
+use Rattle.report9.specs.declared.verdict.Verdict.{Verdict}
+use Rattle.report9.specs.declared.verdict.Verdict.TheVariants as verdict
+use Rattle.report9.specs.declared.verdict.Beginning.{Beginning}
 use Rattle.judge9.specs.Beginning.{judged_rows, passed_before}
 use Rattle.judge9.specs.Judging.{IsTheAnswer, answer_of}
 use Rattle.judge9.specs.Verdict.{counting, line_rules}

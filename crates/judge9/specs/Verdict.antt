@@ -1,20 +1,24 @@
 -- When the records of a capture keep the rules, and which record is the first that breaks one.
-use Rattle.std.specs.Prelude.{◌≡◌, ℕ, ◌+◌, ◌*◌, ◌≤◌, List, [], ◌∷◌, ◌++◌, length}
+use Rattle.std.specs.Prelude.{◌≡◌, ℕ, ◌+◌, ◌*◌, ◌≤◌, None, List, [], ◌∷◌, ◌++◌, length}
 use Rattle.capture9.specs.declared.line_byte.LineByte.{LineByte}
-use Rattle.capture9.specs.Fields.{most_rows}
+use Rattle.capture9.specs.Fields.{greatest_limit, most_rows}
 use Rattle.block9.specs.declared.exchange.Exchange.{Exchange}
 use Rattle.block9.specs.declared.line_rules.LineRules.{LineRules}
 use Rattle.block9.specs.declared.line_rules.ReplyLimit.{ReplyLimit}
-use Rattle.block9.specs.declared.line_rules.ReplyLimit.TheVariants.{Counts}
+use Rattle.block9.specs.declared.line_rules.ReplyLimit.TheVariants.{Counts, LeftAside}
 use Rattle.block9.specs.declared.reason.Reason.{Reason}
 use Rattle.block9.specs.declared.reason.Reason.TheVariants.{NoRun}
 use Rattle.block9.specs.Exchange.{Cut, IsExchange}
 use Rattle.block9.specs.Reason.{Holds, IsFirst, order}
 use Rattle.deck9.specs.declared.profile.Profile.{Profile}
+use Rattle.deck9.specs.declared.state.Hands.{Hands}
+use Rattle.tc25.specs.declared.rate.Rate.TheVariants.{Fps25}
 use Rattle.deck9.specs.Deck.{replies_of}
 use Rattle.deck9.specs.Run.{HasRun}
-use Rattle.verdict9.specs.declared.verdict.Verdict.{Verdict}
-use Rattle.verdict9.specs.declared.verdict.Verdict.TheVariants.{Yes, No}
+use Rattle.report9.specs.declared.verdict.Extent.{Extent}
+use Rattle.report9.specs.declared.verdict.Extent.TheVariants.{FirstBreak, WholeCapture}
+use Rattle.report9.specs.declared.verdict.Verdict.{Verdict}
+use Rattle.report9.specs.declared.verdict.Verdict.TheVariants.{Yes, No}
 
 -- what a capture is judged by: whether the reply limit counts, and what the deck is taken for
 pub record Terms : Type 0 where
@@ -23,6 +27,23 @@ pub record Terms : Type 0 where
 
 abbrev pub terms_of : ReplyLimit → Profile → Terms
 terms_of reply_limit profile = record { reply_limit = reply_limit; profile = profile }
+
+-- a deck of which nothing is known but whether hands are allowed, at 25 frames a second
+abbrev pub at_25 : Hands → Profile
+at_25 hands = record { rate = Fps25; hands = hands; deck = None }
+
+-- whether the reply limit counts: up to the first break it does, and over all parts it is left aside
+abbrev pub reply_limit_of : Extent → ReplyLimit
+reply_limit_of FirstBreak = Counts
+reply_limit_of WholeCapture = LeftAside
+
+abbrev pub terms_for : Extent → Profile → Terms
+terms_for extent profile = terms_of (reply_limit_of extent) profile
+
+-- how many rows a capture may have
+abbrev pub rows_allowed : Extent → ℕ
+rows_allowed FirstBreak = most_rows
+rows_allowed WholeCapture = greatest_limit
 
 -- the reply limit counts
 abbrev pub counting : Profile → Terms

@@ -5,7 +5,7 @@ ghost use Rattle.block9.specs.declared.exchange.Exchange.{Exchange as AnExchange
 ghost use Rattle.judge9.specs.Verdict.{line_rules, terms_of};
 ghost use Rattle.judge9.specs.Working.Turns.{IsObserved, KnowsNothing, Took};
 
-use crate::turn::{Break, Turn};
+use crate::event::{Break, Event};
 use block9::{Exchange, LineRules, Pairer, Reason, ReplyLimit, Step};
 use capture9::LineByte;
 use deck9::{Deck, Profile};
@@ -53,37 +53,39 @@ impl<'a> Follower<'a> {
     /// Takes the next record, and answers what it comes to, if it does: an exchange, a late reply, or a break. An error comes
     /// where the tracker finds no room. Nothing is taken after an error, nor after a break.
     #[inline(always)] // else each answer is handed on through memory
-    pub(crate) fn take(&mut self, line_byte: LineByte) -> Result<Option<Turn>, AllocError>
+    pub(crate) fn take(&mut self, line_byte: LineByte) -> Result<Option<Event>, AllocError>
         requires no_reason { self.old.pairer.reason ≡ None }
         requires in_order { ForSome self.old.pairer.last_time (λ time. time ≤ line_byte.time_us) }
         ensures { Took self.old line_byte result self.new }
     {
         match self.pairer.feed(line_byte) {
             Ok(Step::Waiting) | Ok(Step::Command) => Ok(None),
-            Ok(Step::LateReply) => Ok(Some(Turn::Late(line_byte))),
+            Ok(Step::LateReply) => Ok(Some(Event::LateReply(line_byte))),
             Ok(Step::Exchange) => self.observe(line_byte),
-            Err(reason) => Ok(Some(Turn::Break(Break {
-                reason,
+            Err(refusal) => Ok(Some(Event::Break(Break {
+                reason: refusal.reason,
                 record: line_byte,
+                late: refusal.late,
             }))),
         }
     }
 
     /// What the exchange comes to that the last record, this one, completed: it is a break where no state of the deck remains.
     #[inline(always)] // else each answer is handed on through memory
-    fn observe(&mut self, last: LineByte) -> Result<Option<Turn>, AllocError>
+    fn observe(&mut self, last: LineByte) -> Result<Option<Event>, AllocError>
         requires { (e : AnExchange) × (self.old.pairer.exchange ≡ Some e) }
         ensures pairer { self.new.pairer ≡ self.old.pairer }
         ensures observed { (e : AnExchange) → self.old.pairer.exchange ≡ Some e → IsObserved self.old.tracker e last result self.new.tracker }
     {
         let exchange = self.pairer.completed_exchange();
         if self.tracker.take(exchange)? {
-            return Ok(Some(Turn::Exchange));
+            return Ok(Some(Event::Exchange));
         }
         let reason = Reason::NoRun;
-        Ok(Some(Turn::Break(Break {
+        Ok(Some(Event::Break(Break {
             reason,
             record: last,
+            late: false,
         })))
     }
 

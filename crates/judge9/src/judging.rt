@@ -1,129 +1,280 @@
-//! How far the judging of a capture has come: the rows that are still to come, and what follows their records.
-ghost use Rattle.std.specs.Prelude.{◌≡◌, ◌≤◌, IfOk, None, option_map};
-ghost use Rattle.std.specs.Option.{ForSome};
-ghost use Rattle.capture9.specs.Records.{GivesRecord, Progress};
-ghost use Rattle.capture9.specs.Rows.{rows_within};
-ghost use Rattle.judge9.specs.Verdict.{Terms, terms_of};
-ghost use Rattle.judge9.specs.Working.Beginnings.{BeginsAfter, ComesFirst, TakesUp};
-ghost use Rattle.judge9.specs.Working.Turns.{ComesTo, IsFresh, KnowsNothing, rows_allowed};
+//! The judging of a capture, as a reading of events.
+ghost use Rattle.std.specs.Prelude.{◌≡◌};
+ghost use Rattle.judge9.specs.Standing.{late_besides};
 
-use crate::follower::Follower;
-use crate::parts::{begins_next_part, pass_over};
-use crate::turn::{Break, Turn};
-use block9::ReplyLimit;
-use capture9::{GREATEST_LIMIT, LineByte, MOST_ROWS, Records};
-use deck9::Profile;
+use crate::counts::Counts;
+use crate::event::{Break, Event};
+use crate::feed::Feed;
+use crate::stage::Stage;
+use block9::{Exchange, Open};
+use capture9::LineByte;
+use deck9::{Knowledge, ModeSet, Profile};
+use report9::{Extent, JudgeError, Scope, Totals};
 use std::alloc::{AllocError, Global};
 use std::io::Read;
-use verdict9::{Beginning, JudgeError};
 
-/// How far the judging of a capture has come.
+/// The judging of a capture. It reads the rows one after another and keeps no list of them: only what is open on the line, the
+/// states that the deck could be in, and a few counts.
+///
+/// [`next`](Judging::next) comes to one event after another. At an event the other calls show what is known of it. There is no
+/// other way to judge: a report, a run and a view are each a loop over these events.
 #[derive(Drop)]
-pub(crate) struct Judging<'a, R: Read + Drop> {
-    /// The rows that are still to come.
-    pub(crate) rows: Records<R>,
-    /// What follows their records.
-    pub(crate) follower: Follower<'a>,
-}
-
-/// How many rows a capture may have: with the reply limit left aside all of it is judged, in parts, and it may have
-/// `GREATEST_LIMIT`.
-fn rows_allowed(reply_limit: ReplyLimit) -> u32
-    ensures { result ≡ rows_allowed reply_limit }
-{
-    match reply_limit {
-        ReplyLimit::Counts => MOST_ROWS,
-        ReplyLimit::LeftAside => GREATEST_LIMIT,
-    }
+pub struct Judging<'a, R: Read + Drop> {
+    /// The rows that are still to come, and what follows their records.
+    pub(crate) feed: Feed<'a, R>,
+    alloc: Global,
+    /// How much of the capture is judged.
+    pub(crate) scope: Scope,
+    /// What the deck is taken for.
+    pub(crate) profile: &'a Profile,
+    /// Where it stands.
+    pub(crate) stage: Stage,
+    /// What was counted.
+    pub(crate) counts: Counts,
 }
 
 impl<'a, R: Read + Drop> Judging<'a, R> {
-    /// The judging of what the reader gives. It reads nothing yet; an error comes where memory is refused.
-    pub(crate) fn new(
+    ghost use Rattle.std.specs.Prelude.{◌≡◌, ◌⊎◌, ◌<◌, ◌+◌, ◌^◌, ◌↔◌, IfOk, IfSome, None, Ok, OnOk, Some, true, Option, length, option_map};
+    ghost use Rattle.capture9.specs.Rows.{Rows, rows_within};
+    ghost use Rattle.block9.specs.Pairer.{IsOpenAfter};
+    ghost use Rattle.deck9.specs.Knowledge.{IsKnowledge};
+    ghost use Rattle.deck9.specs.ModeSet.{has};
+    ghost use Rattle.deck9.specs.declared.mode.Mode.{Mode as AMode};
+    ghost use Rattle.deck9.specs.declared.state.State.{State as AState};
+    ghost use Rattle.track9.specs.Tracker.{Possible};
+    ghost use Rattle.judge9.specs.History.{History, nothing_told};
+    ghost use Rattle.judge9.specs.Standing.{CanGoOn, GrowsBy, IsMarked, Next, ShowsExchange, Stands, TakesUpMarked, left_of, totals_of};
+    ghost use Rattle.judge9.specs.Verdict.{rows_allowed, terms_for};
+    ghost use Rattle.judge9.specs.Working.Beginnings.{TakesUp};
+    ghost use Rattle.judge9.specs.declared.event.Break.{Break as ABreak};
+    ghost use Rattle.judge9.specs.declared.event.Event.TheVariants as AnEvent;
+    ghost use Rattle.judge9.specs.declared.stage.Stage.TheVariants as AStage;
+    ghost use Rattle.report9.specs.declared.verdict.Extent.TheVariants as AnExtent;
+    ghost use Rattle.report9.specs.declared.verdict.Scope.{Scope as AScope};
+    ghost use Rattle.deck9.specs.declared.profile.Profile.{Profile as AProfile};
+
+    /// The judging of the capture that the reader gives, so much of it as the scope says, of a deck that is taken for this. With
+    /// `Extent::FirstBreak` a capture may have 4,000,000 rows, and the reply limit counts; with `Extent::WholeCapture` it may have
+    /// 4,294,967,294, and the reply limit is left aside. It reads nothing yet. An error comes where memory is refused.
+    pub fn new(
         alloc: Global,
         reader: R,
-        reply_limit: ReplyLimit,
+        scope: Scope,
         profile: &'a Profile,
     ) -> Result<Judging<'a, R>, AllocError>
-        ensures fresh { IfOk result (IsFresh (terms_of reply_limit profile.now)) }
-        ensures rows { IfOk result (λ j. j.rows.rows ≡ option_map (rows_within (rows_allowed reply_limit)) (R.remaining reader)) }
+        ensures stands { IfOk result (Stands scope profile.now (option_map (rows_within (rows_allowed scope.extent)) (R.remaining reader)) nothing_told) }
+        ensures ready { IfOk result (λ j. CanGoOn j.stage j.feed) }
+        ensures rows { IfOk result (λ j. j.feed.rows.rows ≡ option_map (rows_within (rows_allowed scope.extent)) (R.remaining reader)) }
     {
-        let follower = Follower::of(alloc, reply_limit, profile)?;
         Ok(Judging {
-            rows: Records::new(alloc, reader, rows_allowed(reply_limit)),
-            follower,
+            feed: Feed::new(alloc, reader, scope.extent, profile)?,
+            alloc,
+            scope,
+            profile,
+            stage: Stage::Fresh,
+            counts: Counts {
+                breaks: 0,
+                exchanges: 0,
+                records: 0,
+            },
         })
     }
 
-    /// Reads on to the next exchange, the first record that breaks a rule, or the end of the rows. Errors are those of the
-    /// rows, and `OutOfMemory` where the tracker finds no room; nothing is asked for after one, nor after a break or the end.
-    #[inline(always)] // else each turn would be handed on through memory
-    pub(crate) fn next(&mut self) -> Result<Turn, JudgeError>
-        requires no_reason { self.old.follower.pairer.reason ≡ None }
-        requires in_order { ForSome self.old.follower.pairer.last_time (λ time. time ≤ self.old.rows.last_time) }
-        ensures { ComesTo self.old result self.new }
+    /// Comes to the next event: an exchange, a late reply, a record that breaks a rule, or the end. After a break it takes up the
+    /// next part, or ends, as the scope says. Where the record that breaks a rule begins a late reply besides, that comes first.
+    ///
+    /// The errors are:
+    ///
+    /// * `Capture(e)` with the fault of the first bad row, or of the header; of the kind `Read` where the reader fails or is
+    ///   interrupted at row `e.row`. All records before that row were judged or passed over.
+    /// * `OutOfMemory` where a growth of memory is refused.
+    ///
+    /// Nothing may be asked for after an error. After the end it answers the end again.
+    #[inline(always)] // else each event would be handed on through memory
+    pub fn next(&mut self) -> Result<Event, JudgeError>
+        requires { CanGoOn self.old.stage self.old.feed }
+        ensures told { (scope : AScope) (profile : AProfile) (rows : Option Rows) (h : History) → Stands scope profile rows h self.old
+            → Next scope profile rows h result self.new }
+        ensures ready { OnOk result (CanGoOn self.new.stage self.new.feed) }
+        ensures shows { result ≡ Ok AnEvent.Exchange → ShowsExchange self.new.feed }
+        ensures broke { (b : ABreak) → result ≡ Ok (AnEvent.Break b) → self.new.stage ≡ AStage.Broken b }
+        ensures closer { IfOk result (λ e. (e ≡ AnEvent.End) ⊎ (left_of self.new < left_of self.old)) }
+        ensures over { (b : ABreak) → self.old.scope.extent ≡ AnExtent.FirstBreak → self.old.stage ≡ AStage.Broken b
+            → (result ≡ Ok AnEvent.End) × (self.new ≡ self.old) }
+        ensures same { (self.new.scope ≡ self.old.scope) × (self.new.profile.now ≡ self.old.profile.now) }
     {
-        'open: loop {
-            // by arms, since `?` would put each record aside
-            let line_byte = match self.rows.next() {
-                Ok(Some(line_byte)) => line_byte,
-                Ok(None) => return Ok(Turn::End),
-                Err(error) => return Err(JudgeError::from(error)),
-            };
-            match self.follower.take(line_byte) {
-                Ok(None) => {}
-                Ok(Some(turn)) => return Ok(turn),
-                Err(_) => return Err(JudgeError::OutOfMemory),
+        match self.stage {
+            Stage::Going => {
+                let event = self.feed.next()?;
+                Ok(self.mark(event))
+            }
+            Stage::Fresh => {
+                let event = self.feed.first(self.scope.beginning)?;
+                Ok(self.mark(event))
+            }
+            Stage::Besides(broken) => Ok(self.mark_break(broken)),
+            Stage::Broken(broken) => self.take_up(broken),
+            Stage::Ended => Ok(Event::End),
+        }
+    }
+
+    /// What comes after a break: the end, or the first event of the next part.
+    fn take_up(&mut self, broken: Break) -> Result<Event, JudgeError>
+        requires { CanGoOn (AStage.Broken broken) self.old.feed }
+        ensures first { self.old.scope.extent ≡ AnExtent.FirstBreak → (result ≡ Ok AnEvent.End) × (self.new ≡ self.old) }
+        ensures parts { self.old.scope.extent ≡ AnExtent.WholeCapture → TakesUpMarked broken self.old result self.new }
+        ensures same { (self.new.scope ≡ self.old.scope) × (self.new.profile.now ≡ self.old.profile.now) }
+    {
+        match self.scope.extent {
+            Extent::FirstBreak => Ok(Event::End),
+            Extent::WholeCapture => {
+                let event = self
+                    .feed
+                    .take_up(self.alloc, Extent::WholeCapture, self.profile, broken)?;
+                Ok(self.mark(event))
             }
         }
     }
 
-    /// Comes to the first turn of a capture of which nothing was judged yet, from this beginning on. Errors are those of `next`.
-    #[inline(always)] // else the turn would be handed on through memory
-    pub(crate) fn first(&mut self, beginning: Beginning) -> Result<Turn, JudgeError>
-        requires { (terms : Terms) × IsFresh terms self.old }
-        ensures { (terms : Terms) → IsFresh terms self.old → ComesFirst terms beginning self.old result self.new }
+    /// Marks where the judging stands, and counts, with what the feed came to; the event that is told of it.
+    #[inline(always)] // it is done with every exchange
+    fn mark(&mut self, event: Event) -> Event
+        requires shows { event ≡ AnEvent.Exchange → ShowsExchange self.old.feed }
+        ensures { IsMarked self.old event result self.new }
     {
-        match beginning {
-            Beginning::FirstRecord => self.next(),
-            Beginning::FirstCommand => match pass_over(&mut self.rows, None)? {
-                Some(first) => self.begin(first),
-                None => Ok(Turn::End),
-            },
+        match event {
+            Event::Exchange => {
+                let records = self.feed.follower.exchange().records();
+                self.counts.exchanges = self.counts.exchanges.saturating_add(1);
+                self.counts.records = self.counts.records.saturating_add(records as u32);
+                self.stage = Stage::Going;
+            }
+            Event::LateReply(_) => {
+                self.counts.breaks = self.counts.breaks.saturating_add(1);
+                self.stage = Stage::Going;
+            }
+            Event::Break(broken) => return self.mark_first(broken),
+            Event::End => self.stage = Stage::Ended,
+        }
+        event
+    }
+
+    /// The same with a record that breaks a rule: the late reply comes first that it may begin besides.
+    fn mark_first(&mut self, broken: Break) -> Event
+        ensures { IsMarked self.old (AnEvent.Break broken) result self.new }
+    {
+        if late_besides(self.scope.extent, broken) {
+            self.counts.breaks = self.counts.breaks.saturating_add(1);
+            self.stage = Stage::Besides(broken);
+            return Event::LateReply(broken.record);
+        }
+        self.mark_break(broken)
+    }
+
+    /// The same with the break itself.
+    fn mark_break(&mut self, broken: Break) -> Event
+        ensures told { (result ≡ AnEvent.Break broken) × (self.new.stage ≡ AStage.Broken broken) }
+        ensures breaks { GrowsBy (2 ^ 64) 1 self.old.counts.breaks self.new.counts.breaks }
+        ensures counts { (self.new.counts.exchanges ≡ self.old.counts.exchanges) × (self.new.counts.records ≡ self.old.counts.records) }
+        ensures same { (self.new.feed ≡ self.old.feed) × (self.new.scope ≡ self.old.scope) × (self.new.profile ≡ self.old.profile) }
+    {
+        self.counts.breaks = self.counts.breaks.saturating_add(1);
+        self.stage = Stage::Broken(broken);
+        Event::Break(broken)
+    }
+
+    /// The number of the record that was read last, counted from 1: at an exchange its last one, at a late reply its first one, at a
+    /// break the one that breaks a rule. 0 before the first.
+    pub fn at(&self) -> u32
+        ensures { result ≡ self.now.feed.rows.given }
+    {
+        self.feed.rows.given()
+    }
+
+    /// The time of that record in microseconds, if it was judged.
+    pub fn time_us(&self) -> Option<u64>
+        ensures { result ≡ self.now.feed.follower.pairer.last_time }
+    {
+        self.feed.follower.pairer.last_time()
+    }
+
+    /// The exchange, at an exchange.
+    #[inline(always)]
+    pub fn exchange(&self) -> &Exchange
+        requires { ShowsExchange self.now.feed }
+        ensures { self.now.feed.follower.pairer.exchange ≡ Some result.now }
+    {
+        self.feed.follower.exchange()
+    }
+
+    /// What is known of the deck after the exchange, at an exchange. Takes no memory.
+    pub fn knowledge(&self) -> Knowledge
+        requires { ShowsExchange self.now.feed }
+        ensures { IsKnowledge (Possible self.now.feed.follower.tracker.states) result }
+    {
+        self.feed.follower.tracker.knowledge()
+    }
+
+    /// The modes that the deck may show after the exchange, at an exchange. Takes no memory.
+    pub fn shown(&self) -> ModeSet
+        ensures ten { result.0 < 2 ^ 10 }
+        ensures modes { (m : AMode) → (has result.0 m ≡ true) ↔ ((s : AState) × Possible self.now.feed.follower.tracker.states s × (s.shown ≡ m)) }
+    {
+        self.feed.follower.tracker.shown()
+    }
+
+    /// The records that are open on the line: those since the last complete exchange. At a break those before the record that
+    /// breaks a rule, and none where no run remains.
+    pub fn tail(&self) -> &[LineByte]
+        ensures { result.now ≡ self.now.feed.follower.pairer.tail }
+    {
+        self.feed.follower.pairer.tail()
+    }
+
+    /// What these records are.
+    pub fn open(&self) -> Open
+        ensures { IsOpenAfter self.now.feed.follower.pairer.rules self.now.feed.follower.pairer.tail result }
+    {
+        self.feed.follower.pairer.open()
+    }
+
+    /// What was counted so far: the breaks and late replies that were told, the records that were read, the exchanges that were
+    /// told, and the records that are open. The others count as passed over: those before a part, and those of a part that broke
+    /// which are in no exchange.
+    pub fn totals(&self) -> Totals
+        ensures { result ≡ totals_of self.now }
+    {
+        let records = self.feed.rows.given();
+        let tail = self.feed.follower.pairer.tail_len() as u32;
+        Totals {
+            breaks: self.counts.breaks,
+            records,
+            exchanges: self.counts.exchanges,
+            passed_over: records
+                .saturating_sub(self.counts.records)
+                .saturating_sub(tail),
+            tail,
         }
     }
 
-    /// Takes up where the next part of the capture begins, after a record that was read last broke a rule. What it comes to there
-    /// is as for `next`, and so are the errors.
-    pub(crate) fn take_up(
-        &mut self,
-        alloc: Global,
-        reply_limit: ReplyLimit,
-        profile: &'a Profile,
-        broken: Break,
-    ) -> Result<Turn, JudgeError>
-        requires { (before : Progress R) × GivesRecord before broken.record self.old.rows }
-        ensures { TakesUp (terms_of reply_limit profile.now) broken self.old result self.new }
+    /// The record at which the last part broke, where no other was begun since.
+    pub fn broken(&self) -> Option<Break>
+        ensures { (b : ABreak) → (result ≡ Some b) ↔ (self.now.stage ≡ AStage.Broken b) }
     {
-        self.follower.begin_anew(alloc, reply_limit, profile)?;
-        if begins_next_part(broken.reason, broken.record) {
-            return self.begin(broken.record);
-        }
-        match pass_over(&mut self.rows, Some(broken.record))? {
-            Some(first) => self.begin(first),
-            None => Ok(Turn::End),
+        match self.stage {
+            Stage::Broken(broken) => Some(broken),
+            _ => None,
         }
     }
+}
 
-    /// What the first record of a part comes to, the one that was read last, with those after it.
-    fn begin(&mut self, first: LineByte) -> Result<Turn, JudgeError>
-        requires begins { (terms : Terms) × KnowsNothing terms self.old.follower }
-        requires read { (before : Progress R) × GivesRecord before first self.old.rows }
-        ensures { BeginsAfter self.old first result self.new }
-    {
-        match self.follower.take(first)? {
-            Some(turn) => Ok(turn),
-            None => self.next(),
-        }
+/// Whether a late reply is told of a record that breaks a rule, besides its break: where the reply limit is left aside, and the record
+/// begins one.
+fn late_besides(extent: Extent, broken: Break) -> bool
+    ensures { result ≡ late_besides extent broken }
+{
+    match extent {
+        Extent::FirstBreak => false,
+        Extent::WholeCapture => broken.late,
     }
 }

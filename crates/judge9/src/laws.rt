@@ -1,24 +1,25 @@
 //! The laws of the definitions that contracts cite, each the contract of a function that does nothing: what
 //! carries a verdict from a record to the next.
-ghost use Rattle.std.specs.Prelude.{◌≡◌, ◌≤◌, ◌+◌, ◌↔◌, map, ℕ, if◌then◌else◌, List, [], ◌∷◌, ◌++◌, drop, length, Option, Some, Result};
+ghost use Rattle.std.specs.Prelude.{◌≡◌, ◌≤◌, ◌+◌, ◌↔◌, map, ℕ, if◌then◌else◌, List, [], ◌∷◌, ◌++◌, drop, length, Option, Result, Some};
 ghost use Rattle.block9.specs.Exchange.{Cut, IsKept};
 ghost use Rattle.block9.specs.Line.{last_time};
 ghost use Rattle.block9.specs.Reason.{IsReason};
 ghost use Rattle.block9.specs.declared.exchange.Exchange.{Exchange};
 ghost use Rattle.capture9.specs.Rows.{Rows};
-ghost use Rattle.judge9.specs.Beginning.{Rest, judged_from, judged_rows, passed_before};
-ghost use Rattle.judge9.specs.Moved.{moved_break, moved_part, moved_rest, moved_totals};
+ghost use Rattle.judge9.specs.Beginning.{Rest, judged_from};
+ghost use Rattle.judge9.specs.Renumbered.{renumbered_break, renumbered_part, renumbered_rest, renumbered_totals};
 ghost use Rattle.judge9.specs.Judging.{Answer, IsAnswer};
 ghost use Rattle.judge9.specs.Judging.Answer.{judged};
-ghost use Rattle.judge9.specs.Report.{IsText, Told};
-ghost use Rattle.text9.specs.Writing.{AppendsPart};
-ghost use Rattle.judge9.specs.InTime.{AreSameParts, ComeInTime, IsSamePart, late_at};
+ghost use Rattle.judge9.specs.Report.{IsText, Told, by_verdict};
+ghost use Rattle.judge9.specs.InTime.{AreSameBlocks, AreSameParts, ComeInTime, IsSamePart, late_at};
 ghost use Rattle.judge9.specs.Parts.{AreParts, AreTotals, BrokenPart, Event, IsPart, Part, events_of, in_parts, late_replies, number_of};
 ghost use Rattle.judge9.specs.Parts.Event.{late_reply};
 ghost use Rattle.judge9.specs.Verdict.{AreCounts, Breaks, IsFirstBreak, IsOk, Terms, counting, line_rules};
+ghost use Rattle.report9.specs.Writing.{AppendsPart};
+ghost use Rattle.report9.specs.declared.verdict.Extent.TheVariants as AnExtent;
 ghost use Rattle.std.specs.List.{All};
 ghost use Rattle.std.specs.List.Sorted.{IsNonDecreasingBy};
-ghost use Rattle.deck9.specs.Run.{HasRun};
+ghost use Rattle.deck9.specs.Run.{Ends, HasRun};
 ghost use Rattle.block9.specs.Replies.{TakesNoMore};
 ghost use Rattle.deck9.specs.Deck.{replies_of};
 ghost use Rattle.deck9.specs.Laws.{ForgetsNoMore, PassesNoMore};
@@ -26,9 +27,9 @@ ghost use Rattle.deck9.specs.declared.deck.Deck.{Deck as ADeck};
 
 use block9::{LineRules, Reason};
 use capture9::LineByte;
-use deck9::{Hands, Profile};
+use deck9::{Hands, Profile, State};
+use report9::{Beginning, JudgeError, Totals, Verdict, View};
 use tc25::Rate;
-use verdict9::{Beginning, JudgeError, Totals, Verdict, View};
 
 /// A list of records has at most one cut into exchanges and a tail.
 pub fn one_cut()
@@ -65,12 +66,11 @@ pub fn one_answer()
     ensures { (profile : Profile) (rows : Rows) (answer other : Answer) → IsAnswer profile rows answer → IsAnswer profile rows other → answer ≡ other }
 {}
 
-/// Whatever the result, what was written is a first part of the whole text of the report.
+/// Whatever the result of a judging up to the first break, what was written is a first part of the whole text of the report.
 pub fn first_part_of_the_text()
-    ensures { (view : View) (beginning : Beginning) (profile : Profile) (rows : Rows) (result : Result Verdict JudgeError) (old new : Option (List ℕ))
-        (answer : Answer) (whole : List ℕ) → Told view beginning profile (Some rows) result old new
-        → IsAnswer profile (judged_rows beginning rows) answer
-        → IsText view profile (passed_before beginning rows) (judged_rows beginning rows) answer whole → AppendsPart old new whole }
+    ensures { (view : View) (beginning : Beginning) (profile : Profile) (rows : Rows) (result : Result Verdict JudgeError) (old new : Option (List ℕ)) (whole : List ℕ)
+        → Told view (record { extent = AnExtent.FirstBreak; beginning = beginning }) profile (Some rows) (by_verdict result) old new
+        → IsText view (record { extent = AnExtent.FirstBreak; beginning = beginning }) profile rows whole → AppendsPart old new whole }
 {}
 
 /// Who may touch the deck explains no less: a yes without hands is the same yes with them, and where both are a no, that
@@ -95,7 +95,7 @@ pub fn a_sheet_that_allows_less_judges_no_easier()
 /// Where judging begins at record 1 and nothing breaks, the totals are the counts of a yes, and no record is passed over.
 pub fn parts_without_a_break()
     ensures { (profile : Profile) (items : List LineByte) (left : Rest) (last : Part) (totals : Totals)
-        → AreParts profile (record { past = 0; records = items }) [] left → IsPart profile last → last.records ≡ left.records
+        → AreParts (in_parts profile) (record { past = 0; records = items }) [] left → IsPart (in_parts profile) last → last.records ≡ left.records
         → AreTotals (length items) [] last totals → totals.breaks ≡ 0
         → AreCounts (counting profile) items totals.records totals.exchanges totals.tail × (totals.passed_over ≡ 0) }
 {}
@@ -104,19 +104,19 @@ pub fn parts_without_a_break()
 /// and the records before them count as passed over.
 pub fn the_parts_of_the_capture_that_begins_there()
     ensures { (beginning : Beginning) (profile : Profile) (items : List LineByte) (broken : List BrokenPart) (left : Rest) (last : Part) (totals : Totals)
-        → AreParts profile (record { past = 0; records = (judged_from beginning items).records }) broken left → IsPart profile last
+        → AreParts (in_parts profile) (record { past = 0; records = (judged_from beginning items).records }) broken left → IsPart (in_parts profile) last
         → AreTotals (length (judged_from beginning items).records) broken last totals
-        → AreParts profile (judged_from beginning items) (map (moved_break (judged_from beginning items).past) broken) (moved_rest (judged_from beginning items).past left)
-        × IsPart profile (moved_part (judged_from beginning items).past last)
-        × AreTotals (length items) (map (moved_break (judged_from beginning items).past) broken) (moved_part (judged_from beginning items).past last)
-        (moved_totals (judged_from beginning items).past totals) }
+        → AreParts (in_parts profile) (judged_from beginning items) (map (renumbered_break (judged_from beginning items).past) broken) (renumbered_rest (judged_from beginning items).past left)
+        × IsPart (in_parts profile) (renumbered_part (judged_from beginning items).past last)
+        × AreTotals (length items) (map (renumbered_break (judged_from beginning items).past) broken) (renumbered_part (judged_from beginning items).past last)
+        (renumbered_totals (judged_from beginning items).past totals) }
 {}
 
 /// A capture has one list of parts, of which the last keeps the rules and has all that is left, and one set of totals.
 pub fn one_list_of_parts()
     ensures parts { (profile : Profile) (rest left remaining : Rest) (broken others : List BrokenPart) (last other : Part)
-        → AreParts profile rest broken left → IsPart profile last → last.past ≡ left.past → last.records ≡ left.records
-        → AreParts profile rest others remaining → IsPart profile other → other.past ≡ remaining.past → other.records ≡ remaining.records
+        → AreParts (in_parts profile) rest broken left → IsPart (in_parts profile) last → last.past ≡ left.past → last.records ≡ left.records
+        → AreParts (in_parts profile) rest others remaining → IsPart (in_parts profile) other → other.past ≡ remaining.past → other.records ≡ remaining.records
         → (broken ≡ others) × (last ≡ other) }
     ensures totals { (records : ℕ) (broken : List BrokenPart) (last : Part) (totals others : Totals)
         → AreTotals records broken last totals → AreTotals records broken last others → totals ≡ others }
@@ -126,32 +126,39 @@ pub fn one_list_of_parts()
 /// before which none is late, or the record that ends the first part, where no reply of it is late before.
 pub fn the_first_break_is_the_verdict()
     ensures late { (profile : Profile) (items after : List LineByte) (part : Part) (front more : List Event) (at : ℕ) (asked : List LineByte) (r : LineByte)
-        → items ≡ part.records ++ after → part.past ≡ 0 → IsPart profile part → part.events ≡ front ++ late_reply at asked r ∷ more → late_replies front ≡ 0
+        → items ≡ part.records ++ after → part.past ≡ 0 → IsPart (in_parts profile) part → part.events ≡ front ++ late_reply at asked r ∷ more → late_replies front ≡ 0
         → IsFirstBreak (counting profile) items at Reason.LateReply }
     ensures end { (profile : Profile) (items : List LineByte) (b : BrokenPart) (broken : List BrokenPart) (left : Rest)
-        → AreParts profile (record { past = 0; records = items }) (b ∷ broken) left → late_replies b.part.events ≡ 0
+        → AreParts (in_parts profile) (record { past = 0; records = items }) (b ∷ broken) left → late_replies b.part.events ≡ 0
         → IsFirstBreak (counting profile) items (number_of b) (if b.late then Reason.LateReply else b.reason) }
 {}
 
 /// Where the reply limit is left aside, each part that breaks is the no of a capture that begins with its first record, its number
-/// moved by how many come before it; the first is the no of the whole capture.
+/// moved by how many come before it; the first is the no of the whole capture. A part of which no reply is late before its end is
+/// also the no of that capture as it is judged up to the first break, where the limit counts.
 pub fn each_part_is_a_no()
     ensures each { (profile : Profile) (items : List LineByte) (broken : List BrokenPart) (left : Rest)
-        → AreParts profile (record { past = 0; records = items }) broken left
+        → AreParts (in_parts profile) (record { past = 0; records = items }) broken left
         → All (λ b. IsFirstBreak (in_parts profile) (drop b.part.past items) (length b.part.records + 1) b.reason) broken }
+    ensures in_time { (profile : Profile) (items : List LineByte) (broken : List BrokenPart) (left : Rest)
+        → AreParts (in_parts profile) (record { past = 0; records = items }) broken left
+        → All (λ b. late_replies b.part.events ≡ 0
+        → IsFirstBreak (counting profile) (drop b.part.past items) (length b.part.records + 1) (if b.late then Reason.LateReply else b.reason)) broken }
     ensures first { (profile : Profile) (items : List LineByte) (b : BrokenPart) (broken : List BrokenPart) (left : Rest)
-        → AreParts profile (record { past = 0; records = items }) (b ∷ broken) left → IsFirstBreak (in_parts profile) items (number_of b) b.reason }
+        → AreParts (in_parts profile) (record { past = 0; records = items }) (b ∷ broken) left → IsFirstBreak (in_parts profile) items (number_of b) b.reason }
 {}
 
 /// A late reply is late, and nothing else: where each one comes at the reply limit, and every other record as long after the one
-/// before it as it did, the parts break at the same records and for the same reasons, the same is told of every exchange, no reply
-/// is late, and of the totals only the breaks differ. A capture, in which times never fall, has such another one.
+/// before it as it did, the parts break at the same records and for the same reasons, their exchanges have the same blocks, no reply
+/// is late, and of the totals only the breaks differ. What is known of the deck after exchanges with the same blocks is the same. A
+/// capture, in which times never fall, has such another one.
 pub fn a_late_reply_is_nothing_else()
     ensures same { (profile : Profile) (items moved : List LineByte) (broken : List BrokenPart) (left : Rest) (last : Part) (totals : Totals)
-        → AreParts profile (record { past = 0; records = items }) broken left → IsPart profile last → last.past ≡ left.past → last.records ≡ left.records
+        → AreParts (in_parts profile) (record { past = 0; records = items }) broken left → IsPart (in_parts profile) last → last.past ≡ left.past → last.records ≡ left.records
         → AreTotals (length items) broken last totals → ComeInTime (late_at (events_of broken ++ last.events)) 0 0 0 items moved
-        → (others : List BrokenPart) × (behind : Rest) × (end : Part) × AreParts profile (record { past = 0; records = moved }) others behind × IsPart profile end
+        → (others : List BrokenPart) × (behind : Rest) × (end : Part) × AreParts (in_parts profile) (record { past = 0; records = moved }) others behind × IsPart (in_parts profile) end
         × (end.past ≡ behind.past) × (end.records ≡ behind.records) × AreSameParts broken others × IsSamePart last end
         × AreTotals (length moved) others end (record totals { breaks = length broken }) }
+    ensures known { (profile : Profile) (es fs : List Exchange) → AreSameBlocks es fs → (s : State) → Ends profile es s ↔ Ends profile fs s }
     ensures there_is_one { (late : ℕ → ℕ) (items : List LineByte) → IsNonDecreasingBy (λ r. r.time_us) items → (moved : List LineByte) × ComeInTime late 0 0 0 items moved }
 {}

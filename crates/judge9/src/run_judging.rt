@@ -1,21 +1,23 @@
 //! Judges a capture and keeps its exchanges, so that a yes comes with a run of the deck.
-ghost use Rattle.std.specs.Prelude.{◌≡◌, ◌≢◌, IfSome, IfErr, option_map, None};
+ghost use Rattle.std.specs.Prelude.{◌≡◌, ◌≢◌, [], Err, option_map};
 ghost use Rattle.capture9.specs.Rows.{rows_of};
-ghost use Rattle.judge9.specs.Judging.{CanBeResult, IsTheAnswer, StoppedBefore, answer_of};
+ghost use Rattle.judge9.specs.History.{nothing_told};
+ghost use Rattle.judge9.specs.Judging.{Answers};
 ghost use Rattle.judge9.specs.RunVerdict.{IsJudgedRun, judged_of};
-ghost use Rattle.judge9.specs.Working.Endings.{JudgesRun};
-ghost use Rattle.judge9.specs.Verdict.{counting};
-ghost use Rattle.judge9.specs.Working.Turns.{IsFresh};
+ghost use Rattle.judge9.specs.Standing.{CanGoOn, Stands};
+ghost use Rattle.judge9.specs.Working.Reporting.{JudgesRun, KeepsAll};
+ghost use Rattle.report9.specs.declared.verdict.Extent.TheVariants as AnExtent;
 
+use crate::event::{Break, Event};
 use crate::judging::Judging;
-use crate::part::{PartLog, judge_first_part};
-use block9::ReplyLimit;
-use capture9::{CaptureError, CaptureKind};
-use deck9::Profile;
+use crate::kept::Kept;
+use deck9::{Profile, Register};
+use report9::{Beginning, Extent, JudgeError, RunVerdict, Scope};
 use run9::{Pace, states_of_run};
+use sets25::SpanSet;
 use std::alloc::Global;
-use std::io::{self, Read};
-use verdict9::{Beginning, JudgeError, RunVerdict, Telling};
+use std::io::Read;
+use track9::Tracker;
 
 /// Judges the capture that the reader gives, as [`judge_for`](crate::judge_for) does, and gives a yes with a run of the
 /// deck: how many records were passed over, the exchanges, and a state of the deck after each of them, such that some first
@@ -42,61 +44,96 @@ pub fn judge_with_run_for<R: Read + Drop>(
     beginning: Beginning,
     profile: &Profile,
 ) -> Result<RunVerdict, JudgeError>
-    ensures answer { IfSome (R.remaining reader)
-        (λ text. IfSome (answer_of (judged_of result)) (IsTheAnswer beginning profile.now (rows_of text))) }
+    ensures answers { Answers beginning profile.now (R.remaining reader) (judged_of result) }
     ensures run { IsJudgedRun beginning profile.now (option_map rows_of (R.remaining reader)) result }
-    ensures stopped { IfSome (R.remaining reader)
-        (λ text. IfErr result (StoppedBefore beginning profile.now (rows_of text))) }
-    ensures kind { (e : CaptureError) → result ≡ Err (JudgeError.Capture e)
-        → e.kind ≢ CaptureKind.OutOfMemory }
     ensures write { result ≢ Err JudgeError.Write }
-    ensures can_be { CanBeResult (judged_of result) }
 {
-    let mut judging = Judging::new(alloc, reader, ReplyLimit::Counts, profile)?;
-    let verdict = judge_rows(alloc, &mut judging, beginning, profile);
+    let scope = Scope {
+        extent: Extent::FirstBreak,
+        beginning,
+    };
+    let mut judging = Judging::new(alloc, reader, scope, profile)?;
+    let verdict = find_run(alloc, &mut judging);
     drop(judging);
     verdict
 }
 
-/// Judges all the rows that are to come and finds a run where the verdict is a yes. A run is found from the same exchanges by which
-/// a break is told, so they are kept alike.
-fn judge_rows<R: Read + Drop>(
+/// Judges up to the first break, and finds a run where the verdict is a yes.
+fn find_run<R: Read + Drop>(
     alloc: Global,
     judging: &mut Judging<R>,
-    beginning: Beginning,
-    profile: &Profile,
 ) -> Result<RunVerdict, JudgeError>
-    requires { IsFresh (counting profile.now) judging.old }
-    ensures { JudgesRun beginning profile.now judging.old.rows.rows result }
+    requires first { judging.old.scope.extent ≡ AnExtent.FirstBreak }
+    requires stands { Stands judging.old.scope judging.old.profile.now judging.old.feed.rows.rows nothing_told judging.old }
+    requires ready { CanGoOn judging.old.stage judging.old.feed }
+    ensures { JudgesRun judging.old.scope judging.old.profile.now judging.old.feed.rows.rows result }
 {
-    let mut log = PartLog::new(alloc, Telling::Why);
-    let mut line = Vec::new(alloc);
-    let end = judge_first_part(
-        judging,
-        beginning,
-        &mut log,
-        &mut line,
-        &mut io::sink(),
-        profile,
-    )?;
-    match end {
-        Some(broken) => Ok(RunVerdict::No {
-            at: judging.rows.given(),
+    let profile = judging.profile;
+    let mut kept = Kept::new(alloc);
+    let mut spans = 0;
+    if let Some(broken) = keep_all(judging, &mut kept, &mut spans)? {
+        return Ok(RunVerdict::No {
+            at: judging.at(),
             reason: broken.reason,
-        }),
-        None => {
-            let pace = Pace::of(log.kept.len(), log.spans);
-            let tracker = &judging.follower.tracker;
-            let states = states_of_run(alloc, profile, &log.kept, tracker, pace)?;
-            let tail = judging.follower.pairer.tail_len();
-            let records = log.records_with(tail);
-            Ok(RunVerdict::Yes {
-                past: judging.rows.given() - records,
-                records,
-                tail: tail as u32,
-                exchanges: log.kept,
-                states,
-            })
+        });
+    }
+    let exchanges = kept.exchanges;
+    let pace = Pace::of(exchanges.len(), spans);
+    let tracker = &judging.feed.follower.tracker;
+    let states = states_of_run(alloc, profile, &exchanges, tracker, pace)?;
+    let totals = judging.totals();
+    Ok(RunVerdict::Yes {
+        past: totals.passed_over,
+        records: judging.counts.records.saturating_add(totals.tail),
+        tail: totals.tail,
+        exchanges,
+        states,
+    })
+}
+
+/// Keeps the exchanges up to the first break, which is answered, or to the end. `spans` gets about how many spans of times the
+/// tracker had when it had most: it bears on speed and memory alone.
+fn keep_all<R: Read + Drop>(
+    judging: &mut Judging<R>,
+    kept: &mut Kept,
+    spans: &mut usize,
+) -> Result<Option<Break>, JudgeError>
+    requires first { judging.old.scope.extent ≡ AnExtent.FirstBreak }
+    requires stands { Stands judging.old.scope judging.old.profile.now judging.old.feed.rows.rows nothing_told judging.old }
+    requires ready { CanGoOn judging.old.stage judging.old.feed }
+    requires empty { kept.old.exchanges.items ≡ [] }
+    ensures { KeepsAll judging.old.scope judging.old.profile.now judging.old.feed.rows.rows result kept.new.exchanges.items judging.new }
+{
+    'events: loop {
+        match judging.next()? {
+            Event::Exchange => {
+                kept.keep(judging)?;
+                *spans = most_spans(*spans, kept.exchanges.len(), &judging.feed.follower.tracker);
+            }
+            Event::LateReply(_) => {}
+            Event::Break(broken) => return Ok(Some(broken)),
+            Event::End => return Ok(None),
         }
     }
+}
+
+/// The most spans of times that a tracker had so far: they are counted after each 128th exchange. An exchange adds one at most, so
+/// they are never many more.
+fn most_spans(before: usize, exchanges: usize, tracker: &Tracker<SpanSet>) -> usize {
+    if exchanges % 128 == 0 {
+        before.max(spans_of(tracker))
+    } else {
+        before
+    }
+}
+
+/// How many spans of times a tracker has of all registers, each counted where it has most.
+fn spans_of(tracker: &Tracker<SpanSet>) -> usize {
+    let ins = tracker.spans(Register::RegIn);
+    let outs = tracker.spans(Register::RegOut);
+    let ains = tracker.spans(Register::RegAudioIn);
+    let aouts = tracker.spans(Register::RegAudioOut);
+    ins.saturating_add(outs)
+        .saturating_add(ains)
+        .saturating_add(aouts)
 }

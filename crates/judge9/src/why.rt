@@ -2,93 +2,83 @@
 //! where no run of the deck remains.
 ghost use Rattle.std.specs.Prelude.{◌≡◌, ◌≢◌, ◌⊎◌, ◌++◌, ◌∷◌, [], IfOk, List, Some};
 ghost use Rattle.block9.specs.Exchange.{BeginsLate};
-ghost use Rattle.judge9.specs.PartsReport.{SaysLate};
-ghost use Rattle.verdict9.specs.OpenRecords.{IsBefore};
 ghost use Rattle.block9.specs.declared.exchange.Exchange.{Exchange as AnExchange};
-ghost use Rattle.why9.specs.Contradiction.{BreaksAtLast};
-ghost use Rattle.deck9.specs.declared.profile.Profile.{Profile as AProfile};
-ghost use Rattle.judge9.specs.Working.Parts.{SaysNoRun, SaysWhy};
-ghost use Rattle.judge9.specs.Working.Endings.{IsEnd};
 ghost use Rattle.capture9.specs.declared.line_byte.LineByte.{LineByte as ALineByte};
+ghost use Rattle.judge9.specs.Standing.{ShowsExchange};
+ghost use Rattle.judge9.specs.Why.{SaysLate};
+ghost use Rattle.judge9.specs.Working.Telling.{IsEnd, SaysNoRun, SaysWhy};
+ghost use Rattle.report9.specs.OpenRecords.{IsBefore};
+ghost use Rattle.why9.specs.Contradiction.{BreaksAtLast};
 
+use crate::event::Break;
 use crate::judging::Judging;
-use crate::part::PartLog;
-use crate::turn::Break;
-use block9::{Exchange, Open, Pairer, Reason};
+use crate::kept::Kept;
+use block9::{Exchange, Open, Reason};
 use capture9::LineByte;
 use deck9::Profile;
+use report9::{EndedExchange, WhyNo};
 use std::alloc::{AllocError, Global};
 use std::io::Read;
-use verdict9::{EndedExchange, WhyVerdict};
 use why9::{contradicting_for, could_show_for};
 
-/// Why a record broke a rule, the one that was read last, after the exchanges of its part that were kept. An error comes where
+/// Why the record that a judging read last breaks a rule, after the exchanges of its part that were kept. An error comes where
 /// memory is refused.
 pub(crate) fn why_of<R: Read + Drop>(
+    alloc: Global,
     judging: &Judging<R>,
-    log: PartLog,
+    kept: Kept,
     broken: Break,
-    profile: &Profile,
-) -> Result<WhyVerdict, AllocError>
-    requires { broken.reason ≡ Reason.NoRun → (e : AnExchange) × (judging.now.follower.pairer.exchange ≡ Some e) × BreaksAtLast profile.now (log.kept.items ++ e ∷ []) }
-    ensures { IfOk result (SaysWhy profile.now judging.now.rows.given broken judging.now.follower.pairer log.kept.items log.end_us) }
+) -> Result<WhyNo, AllocError>
+    requires { broken.reason ≡ Reason.NoRun → (e : AnExchange) × (judging.now.feed.follower.pairer.exchange ≡ Some e) × BreaksAtLast judging.now.profile.now (kept.exchanges.items ++ e ∷ []) }
+    ensures { IfOk result (SaysWhy judging.now.profile.now judging.now.feed.rows.given broken judging.now.feed.follower.pairer kept.exchanges.items kept.end_us) }
 {
-    let at = judging.rows.given();
-    let alloc = log.alloc;
-    let exchanges = log.kept;
     match broken.reason {
         Reason::NoRun => {
-            let last = judging.follower.exchange();
-            why_no_run(alloc, profile, at, exchanges, last)
+            let last = judging.feed.follower.exchange();
+            why_no_run(alloc, judging.profile, judging.at(), kept.exchanges, last)
         }
-        _ => {
-            let pairer = &judging.follower.pairer;
-            why_broken(alloc, pairer, at, broken, exchanges, log.end_us)
-        }
+        _ => why_broken(alloc, judging, kept, broken),
     }
 }
 
-/// Why the record of this number broke a rule of blocks, pairing or timing: what the pairer holds was open before it, and these
-/// exchanges came before that, the last of which ended at this time. An error comes where memory is refused.
-fn why_broken(
+/// Why the record that a judging read last breaks a rule of blocks, pairing or timing, after these exchanges. An error comes where
+/// memory is refused.
+fn why_broken<R: Read + Drop>(
     alloc: Global,
-    pairer: &Pairer,
-    at: u32,
+    judging: &Judging<R>,
+    kept: Kept,
     broken: Break,
-    exchanges: Vec<Exchange>,
-    end_us: Option<u64>,
-) -> Result<WhyVerdict, AllocError>
+) -> Result<WhyNo, AllocError>
     requires { broken.reason ≢ Reason.NoRun }
-    ensures { (profile : AProfile) → IfOk result (SaysWhy profile at broken pairer.now exchanges.items end_us) }
+    ensures { IfOk result (SaysWhy judging.now.profile.now judging.now.feed.rows.given broken judging.now.feed.follower.pairer kept.exchanges.items kept.end_us) }
 {
-    let tail = open_records(alloc, pairer)?;
-    let before = ended_before(exchanges, tail.as_slice(), end_us);
-    Ok(WhyVerdict::Break {
-        at,
+    let tail = copy_of(alloc, judging.tail())?;
+    let before = ended_before(kept, tail.as_slice());
+    Ok(WhyNo::Break {
+        at: judging.at(),
         reason: broken.reason,
         tail,
-        open: pairer.open(),
+        open: judging.open(),
         before,
         breaking: broken.record,
     })
 }
 
-/// Why a reply is late that begins with this record, the one of this number, which was read last: the records of its command are
-/// open. An error comes where memory is refused.
-pub(crate) fn why_late(
+/// Why a reply is late that begins with this record, which a judging read last: the records of its command are open. An error comes
+/// where memory is refused.
+pub(crate) fn why_late<R: Read + Drop>(
     alloc: Global,
-    pairer: &Pairer,
-    at: u32,
+    judging: &Judging<R>,
     first: LineByte,
-) -> Result<WhyVerdict, AllocError>
-    ensures { (asked : List ALineByte) → BeginsLate pairer.now.rules asked first → (pairer.now.tail ≡ asked) ⊎ (pairer.now.tail ≡ asked ++ first ∷ [])
-        → IfOk result (SaysLate pairer.now.rules at asked first) }
+) -> Result<WhyNo, AllocError>
+    ensures { (asked : List ALineByte) → BeginsLate judging.now.feed.follower.pairer.rules asked first
+        → (judging.now.feed.follower.pairer.tail ≡ asked) ⊎ (judging.now.feed.follower.pairer.tail ≡ asked ++ first ∷ [])
+        → IfOk result (SaysLate judging.now.feed.follower.pairer.rules judging.now.feed.rows.given asked first) }
 {
-    let open = pairer.open();
-    let mut tail = Vec::new(alloc);
-    tail.extend_from_slice(&pairer.tail()[..open.asked])?;
-    Ok(WhyVerdict::Break {
-        at,
+    let open = judging.open();
+    let tail = copy_of(alloc, &judging.tail()[..open.asked])?;
+    Ok(WhyNo::Break {
+        at: judging.at(),
         reason: Reason::LateReply,
         tail,
         open: Open {
@@ -111,7 +101,7 @@ fn why_no_run(
     at: u32,
     before: Vec<Exchange>,
     last: &Exchange,
-) -> Result<WhyVerdict, AllocError>
+) -> Result<WhyNo, AllocError>
     requires { BreaksAtLast profile.now (before.items ++ last.now ∷ []) }
     ensures { IfOk result (SaysNoRun profile.now at (before.items ++ last.now ∷ [])) }
 {
@@ -119,7 +109,7 @@ fn why_no_run(
     exchanges.push(last.copy())?;
     let places = contradicting_for(alloc, profile, &exchanges)?;
     let (known, shown) = could_show_for(alloc, profile, &exchanges)?;
-    Ok(WhyVerdict::Contradiction {
+    Ok(WhyNo::Contradiction {
         at,
         exchanges,
         places,
@@ -128,27 +118,23 @@ fn why_no_run(
     })
 }
 
-/// The records that are open, in memory of their own.
-fn open_records(alloc: Global, pairer: &Pairer) -> Result<Vec<LineByte>, AllocError>
-    ensures { IfOk result (λ tail. tail.items ≡ pairer.now.tail) }
+/// These records, in memory of their own.
+fn copy_of(alloc: Global, records: &[LineByte]) -> Result<Vec<LineByte>, AllocError>
+    ensures { IfOk result (λ copy. copy.items ≡ records.now) }
 {
-    let mut tail = Vec::new(alloc);
-    tail.extend_from_slice(pairer.tail())?;
-    Ok(tail)
+    let mut copy = Vec::new(alloc);
+    copy.extend_from_slice(records)?;
+    Ok(copy)
 }
 
-/// The last of these exchanges, with the time at which it ended, where no record is open after it.
-fn ended_before(
-    exchanges: Vec<Exchange>,
-    tail: &[LineByte],
-    end_us: Option<u64>,
-) -> Option<EndedExchange>
-    ensures { (records : List ALineByte) → (tail.now ≡ [] → IsEnd records exchanges.items end_us) → IsBefore records exchanges.items tail.now result }
+/// The last of the exchanges that were kept, with the time at which it ended, where no record is open after it.
+fn ended_before(kept: Kept, tail: &[LineByte]) -> Option<EndedExchange>
+    ensures { (records : List ALineByte) → (tail.now ≡ [] → IsEnd records kept.exchanges.items kept.end_us) → IsBefore records kept.exchanges.items tail.now result }
 {
-    let mut exchanges = exchanges;
+    let mut exchanges = kept.exchanges;
     let last = exchanges.pop();
     drop(exchanges);
-    match (last, end_us) {
+    match (last, kept.end_us) {
         (Some(exchange), Some(end_us)) if tail.is_empty() => Some(EndedExchange {
             exchange,
             end_us,

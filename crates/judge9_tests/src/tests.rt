@@ -2,6 +2,7 @@
 mod begun;
 mod changed;
 mod drawn;
+mod events;
 mod fewest_hands;
 mod hostile;
 mod kept_by_hand;
@@ -12,7 +13,6 @@ mod readers;
 mod run_lines;
 mod runs;
 mod texts;
-mod why_answers;
 mod worked_runs;
 mod writers;
 

@@ -1,1 +1,1 @@
-mod WhyLemmas
+mod BufferLemmas

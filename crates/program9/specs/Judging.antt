@@ -1,19 +1,29 @@
 -- How a judging ends whose report goes through a buffer.
-use Rattle.std.specs.Prelude.{◌≡◌, ◌⊎◌, ℕ, List, Option, Result, Ok, Err}
+use Rattle.std.specs.Prelude.{◌≡◌, ◌≢◌, ◌⊎◌, ℕ, List, Option, Result, Ok, Err, IfSome, option_map}
 use Rattle.std.specs.Io.KnownBytes.{Appends, Keeps}
-use Rattle.capture9.specs.Rows.{Rows}
+use Rattle.capture9.specs.declared.error.CaptureError.{CaptureError}
+use Rattle.capture9.specs.declared.error.CaptureKind.TheVariants as kind
+use Rattle.capture9.specs.Fields.{greatest_limit}
+use Rattle.capture9.specs.Rows.{HasHeader, Rows, rows_of, rows_within}
 use Rattle.deck9.specs.declared.profile.Profile.{Profile}
-use Rattle.verdict9.specs.declared.error.JudgeError.{JudgeError}
-use Rattle.verdict9.specs.declared.error.JudgeError.TheVariants as error
-use Rattle.verdict9.specs.declared.run_verdict.RunVerdict.{RunVerdict}
-use Rattle.verdict9.specs.declared.verdict.Beginning.{Beginning}
-use Rattle.verdict9.specs.declared.verdict.Verdict.{Verdict}
-use Rattle.verdict9.specs.declared.why_verdict.WhyVerdict.{WhyVerdict}
-use Rattle.text9.specs.Writing.{AppendsPart}
+use Rattle.report9.specs.declared.error.JudgeError.{JudgeError}
+use Rattle.report9.specs.declared.error.JudgeError.TheVariants as error
+use Rattle.report9.specs.declared.run_verdict.RunVerdict.{RunVerdict}
+use Rattle.report9.specs.declared.totals.Totals.{Totals}
+use Rattle.report9.specs.declared.verdict.Beginning.{Beginning}
+use Rattle.report9.specs.declared.verdict.Extent.TheVariants.{FirstBreak, WholeCapture}
+use Rattle.report9.specs.declared.verdict.Verdict.{Verdict}
+use Rattle.report9.specs.declared.verdict.View.{View}
+use Rattle.report9.specs.Writing.{AppendsPart}
 use Rattle.report9.specs.RunText.{text_of_run}
+use Rattle.judge9.specs.Judging.{Answers}
+use Rattle.judge9.specs.Report.{Told, by_totals, by_verdict}
 use Rattle.judge9.specs.RunVerdict.{IsJudgedRun, verdict_of}
-use Rattle.report9.specs.WhyText.{text_of_why}
-use Rattle.judge9.specs.WhyVerdict.{IsJudgedWhy, verdict_of as verdict_of_why}
+use Rattle.words9.specs.declared.task.Report.{Report}
+use Rattle.words9.specs.declared.task.Report.TheVariants.{Parts, Run, ToBreak}
+use Rattle.program9.specs.declared.ending.Outcome.{Outcome}
+use Rattle.program9.specs.declared.judging.Job.{Job}
+use Rattle.program9.specs.Outcome.{outcome_in_parts, outcome_of}
 use Rattle.program9.specs.Output.{IsFirstPart}
 
 -- of a judging that answered `judged`, after which the writer was to hold `all`: the result is that answer, and
@@ -32,22 +42,37 @@ WritesRun profile (Ok run) result old new =
 abbrev pub TellsRun : Beginning → Profile → Option Rows → Option (List ℕ) → Result Verdict JudgeError → Option (List ℕ) → Type 0
 TellsRun beginning profile known old judged all = (found : Result RunVerdict JudgeError) × IsJudgedRun beginning profile known found × WritesRun profile found judged old all
 
--- what writing the text of why a verdict is a no answers: where there is none the refusal, and nothing was written; else
--- the verdict, and the text was written, or a write fault, and a first part of it was, or memory ran out, and nothing was
-abbrev pub WritesWhy : Profile → Result WhyVerdict JudgeError → Result Verdict JudgeError → Option (List ℕ) → Option (List ℕ) → Type 0
-WritesWhy profile (Err e) result old new = (result ≡ Err e) × Keeps old new
-WritesWhy profile (Ok why) result old new =
-    ((result ≡ Ok (verdict_of_why why)) × Appends old new (text_of_why profile why))
-    ⊎ (((result ≡ Err error.Write) × AppendsPart old new (text_of_why profile why)) ⊎ ((result ≡ Err error.OutOfMemory) × Keeps old new))
+-- a capture, whose text is given where it is known, was judged to its first break, with what the job asks for and for its deck, and
+-- told by this view: the result, and what the writer holds before and after
+abbrev pub IsJudged : View → Job → Option (List ℕ) → Option (List ℕ) → Result Verdict JudgeError → Option (List ℕ) → Type 0
+IsJudged view job capture old result now =
+    Answers job.asked.beginning job.profile capture result
+    × Told view (record { extent = FirstBreak; beginning = job.asked.beginning }) job.profile (option_map rows_of capture) (by_verdict result) old now
 
--- a judging that says why no run remains, of these rows where they are known, and the writing of its text
-abbrev pub TellsWhy : Beginning → Profile → Option Rows → Option (List ℕ) → Result Verdict JudgeError → Option (List ℕ) → Type 0
-TellsWhy beginning profile known old judged all =
-    (found : Result WhyVerdict JudgeError) × IsJudgedWhy beginning profile known found × WritesWhy profile found judged old all
+-- the same with a run, whose text was written
+abbrev pub IsJudgedWithRun : Job → Option (List ℕ) → Option (List ℕ) → Result Verdict JudgeError → Option (List ℕ) → Type 0
+IsJudgedWithRun job capture old result now =
+    Answers job.asked.beginning job.profile capture result × TellsRun job.asked.beginning job.profile (option_map rows_of capture) old result now
 
--- some judging of this kind, with this kind of answer, ended with this result, and the writer holds this now
-pub record EndsAs {A : Type 0} (Kind : Result A JudgeError → Option (List ℕ) → Type 0) (result : Result A JudgeError) (now : Option (List ℕ)) : Type 0 where
+-- the same of a capture that was judged part by part, and of each part told by this view
+pub record IsJudgedInParts (view : View) (job : Job) (capture old : Option (List ℕ)) (result : Result Totals JudgeError) (now : Option (List ℕ)) : Type 0 where
+  pub told :
+      Told view (record { extent = WholeCapture; beginning = job.asked.beginning }) job.profile (option_map (rows_within greatest_limit) capture) (by_totals result)
+      old now
+  pub kind : (e : CaptureError) → result ≡ Err (error.Capture e) → e.kind ≢ kind.OutOfMemory
+  pub header : IfSome capture (λ text. (e : CaptureError) → result ≡ Err (error.Capture e) → e.row ≢ 0 → HasHeader (rows_within greatest_limit text))
+
+-- some judging of this kind was handed on, and this is the end: that of the result, by this table; and the writer holds this now
+pub record EndsAs {A : Type 0} (Kind : Result A JudgeError → Option (List ℕ) → Type 0) (outcome : Result A JudgeError → Outcome) (end : Outcome) (now : Option (List ℕ)) : Type 0 where
   pub judged : Result A JudgeError
   pub all : Option (List ℕ)
   pub is_judged : Kind judged all
+  pub result : Result A JudgeError
   pub hands_on : HandsOn judged all result now
+  pub is_end : end ≡ outcome result
+
+-- a capture was judged and told by this report, and this is the end
+abbrev pub EndsJudged : Report → Job → Option (List ℕ) → Option (List ℕ) → Outcome → Option (List ℕ) → Type 0
+EndsJudged Run job capture old end now = EndsAs (IsJudgedWithRun job capture old) outcome_of end now
+EndsJudged (ToBreak view) job capture old end now = EndsAs (IsJudged view job capture old) outcome_of end now
+EndsJudged (Parts view) job capture old end now = EndsAs (IsJudgedInParts view job capture old) outcome_in_parts end now

@@ -1,13 +1,15 @@
 -- How the program ends: its status, and what it says on standard error.
-use Rattle.std.specs.Prelude.{◌==◌, if◌then◌else◌, Result, Ok, Err}
+use Rattle.std.specs.Prelude.{◌==◌, if◌then◌else◌, Option, Some, Result, Ok, Err}
+use Rattle.std.specs.declared.io.ErrorKind.{ErrorKind}
+use Rattle.std.specs.declared.io.ErrorKind.TheVariants.{BrokenPipe}
 use Rattle.capture9.specs.declared.error.CaptureError.{CaptureError}
 use Rattle.capture9.specs.declared.error.CaptureKind.{CaptureKind}
 use Rattle.capture9.specs.declared.error.CaptureKind.TheVariants as kind
-use Rattle.verdict9.specs.declared.error.JudgeError.{JudgeError}
-use Rattle.verdict9.specs.declared.error.JudgeError.TheVariants as error
-use Rattle.verdict9.specs.declared.totals.Totals.{Totals}
-use Rattle.verdict9.specs.declared.verdict.Verdict.{Verdict}
-use Rattle.verdict9.specs.declared.verdict.Verdict.TheVariants as verdict
+use Rattle.report9.specs.declared.error.JudgeError.{JudgeError}
+use Rattle.report9.specs.declared.error.JudgeError.TheVariants as error
+use Rattle.report9.specs.declared.totals.Totals.{Totals}
+use Rattle.report9.specs.declared.verdict.Verdict.{Verdict}
+use Rattle.report9.specs.declared.verdict.Verdict.TheVariants as verdict
 use Rattle.program9.specs.declared.ending.Message.{Message}
 use Rattle.program9.specs.declared.ending.Message.TheVariants as message
 use Rattle.program9.specs.declared.ending.Outcome.{Outcome}
@@ -51,3 +53,9 @@ unless_write_fault said = said
 -- the same end, which says nothing of a write fault
 abbrev pub without_write_fault : Outcome → Outcome
 without_write_fault end = record end { message = unless_write_fault end.message }
+
+-- the end after this one of a judging, where a write or a flush may have failed so: of a write fault nothing is said where the reader
+-- of a pipe is gone, and all is said else
+abbrev pub told_after : Option ErrorKind → Outcome → Outcome
+told_after (Some BrokenPipe) end = without_write_fault end
+told_after failed end = end

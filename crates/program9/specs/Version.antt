@@ -1,7 +1,7 @@
 -- What the program says where it is asked for its version.
 use Rattle.std.specs.Prelude.{◌≡◌, ◌⊎◌, ℕ, List, Option}
 use Rattle.std.specs.Io.KnownBytes.{Appends}
-use Rattle.text9.specs.Writing.{AppendsPart}
+use Rattle.report9.specs.Writing.{AppendsPart}
 use Rattle.words9.specs.declared.task.TheConstants.{VERSION_LINE}
 use Rattle.program9.specs.declared.ending.Message.TheVariants as message
 use Rattle.program9.specs.declared.ending.Outcome.{Outcome}

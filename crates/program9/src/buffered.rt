@@ -1,12 +1,12 @@
 //! A writer behind a buffer that tries no failed write again, and writes nothing when it is dropped.
-ghost use Rattle.std.specs.Prelude.{IsTrue, Some, None, ◌↔◌, ◌≡◌, ◌≢◌, ◌+◌, ◌-◌, ◌<◌, ◌≤◌, ℕ, Ok, true, slice_index, take, vec_capacity, [], drop, IfErr, IfOk, OnErr, OnOk, vec_len};
+ghost use Rattle.std.specs.Prelude.{Some, None, ◌≡◌, ◌≢◌, ◌+◌, ◌-◌, ◌<◌, ◌≤◌, ℕ, Ok, true, slice_index, take, vec_capacity, [], drop, IfErr, IfOk, OnErr, OnOk, vec_len};
+ghost use Rattle.std.specs.IoError.{error_kind};
 ghost use Rattle.program9.specs.Output.{held_contents};
-ghost use Rattle.std.specs.declared.io.ErrorKind.TheVariants.{BrokenPipe};
 
 use crate::held::Held;
+use report9::write_some;
 use std::alloc::Global;
 use std::io::{self, Write};
-use text9::write_some;
 
 /// How many bytes a buffer holds.
 const CAPACITY: usize = 8192;
@@ -48,18 +48,18 @@ impl<W: Write + Drop> Buffered<W> {
         to
     }
 
-    /// Whether what failed was a write to a pipe whose reader is gone.
-    pub(crate) fn reader_is_gone(&self) -> bool
-        ensures { IsTrue result ↔ self.now.held.failed ≡ Some BrokenPipe }
+    /// The kind of the error with which a write or a flush failed, where one did.
+    pub(crate) fn failed(&self) -> Option<io::ErrorKind>
+        ensures { result ≡ self.now.held.failed }
     {
-        matches!(self.held.failed, Some(io::ErrorKind::BrokenPipe))
+        self.held.failed
     }
 
     /// Hands on what is held. After an error, what was not taken is still held.
     fn hand_on(&mut self) -> io::Result<()>
         ensures kept { Keeps (held_contents W.contents self.old) (held_contents W.contents self.new) }
         ensures empty { OnOk result (self.new.held.bytes.items ≡ []) }
-        ensures noted { OnErr result (self.new.held.failed ≢ None) }
+        ensures noted { IfErr result (λ e. self.new.held.failed ≡ Some (error_kind e)) }
         ensures line_buffered { self.new.held.line_buffered ≡ self.old.held.line_buffered }
     {
         let (sent, result) = write_some(&mut self.to, self.held.bytes.as_slice());
@@ -74,7 +74,7 @@ impl<W: Write + Drop> Buffered<W> {
     fn pass_on(&mut self) -> io::Result<()>
         ensures kept { Keeps (held_contents W.contents self.old) (held_contents W.contents self.new) }
         ensures empty { OnOk result (self.new.held.bytes.items ≡ []) }
-        ensures noted { OnErr result (self.new.held.failed ≢ None) }
+        ensures noted { IfErr result (λ e. self.new.held.failed ≡ Some (error_kind e)) }
         ensures line_buffered { self.new.held.line_buffered ≡ self.old.held.line_buffered }
     {
         self.hand_on()?;
@@ -134,6 +134,7 @@ impl<W: Write + Drop> Buffered<W> {
         ensures kept { Keeps (held_contents W.contents self.old) (held_contents W.contents self.new) }
         ensures empty { OnOk result (self.new.held.bytes.items ≡ []) }
         ensures none_failed { OnOk result (self.old.held.failed ≡ None) }
+        ensures noted { IfErr result (λ e. self.new.held.failed ≡ Some (error_kind e)) }
         ensures not_again { self.old.held.failed ≢ None → self.new ≡ self.old }
     {
         self.held.earlier_error()?;

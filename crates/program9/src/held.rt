@@ -1,5 +1,6 @@
 //! The bytes that a buffer holds back.
-ghost use Rattle.std.specs.Prelude.{◌≡◌, ◌≢◌, ◌<◌, length, None, [], IfOk, IfSome, OnErr, OnOk, true};
+ghost use Rattle.std.specs.Prelude.{◌≡◌, ◌≢◌, ◌<◌, length, None, Some, [], IfErr, IfOk, IfSome, OnOk, true};
+ghost use Rattle.std.specs.IoError.{error_kind};
 ghost use Rattle.program9.specs.WholeLines.{HasNoLine, HoldsNoLine, IsLineEnd};
 
 use memchr::memchr;
@@ -38,7 +39,7 @@ impl Held {
     /// The error of the write that failed before, where one did.
     pub(crate) fn earlier_error(&self) -> io::Result<()>
         ensures ok { OnOk result (self.now.failed ≡ None) }
-        ensures err { OnErr result (self.now.failed ≢ None) }
+        ensures err { IfErr result (λ e. self.now.failed ≡ Some (error_kind e)) }
     {
         match self.failed {
             None => Ok(()),

@@ -1,190 +1,77 @@
-//! The judging that a verb asks for, whose report goes through a buffer, and the flush after it.
-ghost use Rattle.std.specs.Prelude.{◌≡◌, ◌≢◌, Err, IfSome, IfErr, option_map, None};
-ghost use Rattle.capture9.specs.Fields.{greatest_limit};
-ghost use Rattle.capture9.specs.Rows.{HasHeader, rows_of, rows_within};
-ghost use Rattle.judge9.specs.Judging.{CanBeResult, IsTheAnswer, StoppedBefore, answer_of};
-ghost use Rattle.judge9.specs.PartsReport.{ToldInParts};
+//! The judging that is asked for, whose report goes through a buffer, and the flush after it.
+ghost use Rattle.std.specs.Prelude.{◌≡◌, Err};
+ghost use Rattle.judge9.specs.Judging.{CanBeResult};
 ghost use Rattle.judge9.specs.RunVerdict.{judged_of, verdict_of};
 ghost use Rattle.judge9.specs.Verdict.{CanBeVerdict};
-ghost use Rattle.judge9.specs.WhyVerdict.{verdict_of as verdict_of_why};
 ghost use Rattle.program9.specs.Output.{contents_behind, held_contents};
-ghost use Rattle.program9.specs.Judging.{EndsAs, HandsOn, WritesRun, WritesWhy};
-ghost use Rattle.program9.specs.Program.{TellsFor};
+ghost use Rattle.program9.specs.Judging.{EndsJudged, HandsOn, IsJudgedWithRun, WritesRun};
 
 use crate::buffered::Buffered;
-use block9::Reason;
-use capture9::{CaptureError, CaptureKind};
-use deck9::{Hands, Profile};
-use judge9::{
-    Beginning, Detail, JudgeError, RunVerdict, Telling, Totals, Verdict, View, WhyVerdict,
-    judge_for, judge_parts_for, judge_with_contradiction_for, judge_with_run_for,
-};
-use report9::{write_run_for, write_why_for};
+use crate::ending::Outcome;
+use crate::status::{outcome, outcome_in_parts};
+use deck9::Profile;
+use judge9::{judge_for, judge_parts_for, judge_with_run_for};
+use report9::{JudgeError, RunVerdict, Verdict, write_run_for};
 use std::alloc::Global;
 use std::io::{Read, Write};
-use tc25::Rate;
-use words9::Verb;
+use words9::{Asked, Report};
 
-/// Judges the capture that the reader gives as the verb says, and passes the whole report on to the writer behind the buffer. With
-/// `Verb::Explain` each exchange is told in this detail.
+/// What is asked of a capture, and for which deck.
+#[derive(Drop)]
+pub struct Job {
+    /// What is asked.
+    pub asked: Asked,
+    /// What the deck is taken for.
+    pub profile: Profile,
+}
+
+/// Judges the capture that the reader gives as the job says, and passes the whole report on to the writer behind the buffer.
 ///
-/// The report is that of `judge`, the text of the run that `judge_with_run` answered, or the text of the verdict that
-/// `judge_with_contradiction` answered; of the last two there is none where there is no verdict. The result is the
-/// verdict or the refusal of that judging where the writer took the whole report. `Err(OutOfMemory)` comes also where memory
-/// for the text of why is refused: nothing of it is written. Else it is `Err(Write)`, and the writer has a first part of the
-/// report; what the buffer still holds is not written. After a write that failed, that was interrupted or that took no
-/// byte, none is tried again.
+/// The report is that of `judge_for`, that of `judge_parts_for`, or the text of the run that `judge_with_run_for` answered, of which
+/// there is none where there is no verdict. The end is that of the verdict, of the totals or of the refusal of that judging, as
+/// [`outcome`] and [`outcome_in_parts`] say, where the writer took the whole report. Else it is a write fault, and the writer has a
+/// first part of the report; what the buffer still holds is not written. After a write that failed, that was interrupted or that
+/// took no byte, none is tried again.
 pub fn judge_and_flush<R: Read + Drop, W: Write + Drop>(
     alloc: Global,
     reader: R,
     out: &mut Buffered<W>,
-    verb: Verb,
-    detail: Detail,
-    hands: Hands,
-) -> Result<Verdict, JudgeError>
-    ensures answer { IfSome (R.remaining reader)
-        (λ text. IfSome (answer_of result) (IsTheAnswer Beginning.FirstRecord (record { rate = Rate.Fps25; hands = hands; deck = None }) (rows_of text))) }
-    ensures told { EndsAs (TellsFor verb detail Beginning.FirstRecord (record { rate = Rate.Fps25; hands = hands; deck = None }) (option_map rows_of (R.remaining reader))
-        (held_contents W.contents out.old))
-        result (contents_behind W.contents out.new) }
-    ensures stopped { IfSome (R.remaining reader)
-        (λ text. IfErr result (StoppedBefore Beginning.FirstRecord (record { rate = Rate.Fps25; hands = hands; deck = None }) (rows_of text))) }
-    ensures kind { (e : CaptureError) → result ≡ Err (JudgeError.Capture e)
-        → e.kind ≢ CaptureKind.OutOfMemory }
-    ensures can_be { CanBeResult result }
+    job: &Job,
+) -> Outcome
+    ensures { EndsJudged job.now.asked.report job.now (R.remaining reader) (held_contents W.contents out.old) result (contents_behind W.contents out.new) }
 {
-    judge_and_flush_for(
-        alloc,
-        reader,
-        out,
-        verb,
-        detail,
-        Beginning::FirstRecord,
-        &Profile::of(hands),
-    )
-}
-
-/// Judges the capture of a deck that is taken for this, from this beginning on, and passes the whole report on: [`judge_and_flush`]
-/// at any rate.
-pub fn judge_and_flush_for<R: Read + Drop, W: Write + Drop>(
-    alloc: Global,
-    reader: R,
-    out: &mut Buffered<W>,
-    verb: Verb,
-    detail: Detail,
-    beginning: Beginning,
-    profile: &Profile,
-) -> Result<Verdict, JudgeError>
-    ensures answer { IfSome (R.remaining reader)
-        (λ text. IfSome (answer_of result) (IsTheAnswer beginning profile.now (rows_of text))) }
-    ensures told { EndsAs (TellsFor verb detail beginning profile.now (option_map rows_of (R.remaining reader))
-        (held_contents W.contents out.old))
-        result (contents_behind W.contents out.new) }
-    ensures stopped { IfSome (R.remaining reader)
-        (λ text. IfErr result (StoppedBefore beginning profile.now (rows_of text))) }
-    ensures kind { (e : CaptureError) → result ≡ Err (JudgeError.Capture e)
-        → e.kind ≢ CaptureKind.OutOfMemory }
-    ensures can_be { CanBeResult result }
-{
-    let judged = tell(alloc, reader, out, verb, detail, beginning, profile);
-    ended(out, judged)
-}
-
-/// Judges the whole capture that the reader gives, part by part, tells what is asked for of each part, and passes the whole report
-/// on to the writer behind the buffer.
-///
-/// The report is that of `judge_parts`. The result is what that answers where the writer took the whole report. Else it is
-/// `Err(Write)`, and the writer has a first part of the report; what the buffer still holds is not written. After a write that
-/// failed, that was interrupted or that took no byte, none is tried again.
-pub fn judge_parts_and_flush<R: Read + Drop, W: Write + Drop>(
-    alloc: Global,
-    reader: R,
-    out: &mut Buffered<W>,
-    telling: Telling,
-    hands: Hands,
-) -> Result<Totals, JudgeError>
-    ensures told { EndsAs
-        (λ judged all. ToldInParts Beginning.FirstRecord telling (record { rate = Rate.Fps25; hands = hands; deck = None }) (option_map (rows_within greatest_limit) (R.remaining reader)) judged
-        (held_contents W.contents out.old) all)
-        result (contents_behind W.contents out.new) }
-    ensures kind { (e : CaptureError) → result ≡ Err (JudgeError.Capture e)
-        → e.kind ≢ CaptureKind.OutOfMemory }
-    ensures header { IfSome (R.remaining reader) (λ text. (e : CaptureError)
-        → result ≡ Err (JudgeError.Capture e) → e.row ≢ 0 → HasHeader (rows_within greatest_limit text)) }
-{
-    judge_parts_and_flush_for(
-        alloc,
-        reader,
-        out,
-        telling,
-        Beginning::FirstRecord,
-        &Profile::of(hands),
-    )
-}
-
-/// Judges the whole capture of a deck that is taken for this, from this beginning on, part by part, and passes the whole report on:
-/// [`judge_parts_and_flush`] at any rate.
-pub fn judge_parts_and_flush_for<R: Read + Drop, W: Write + Drop>(
-    alloc: Global,
-    reader: R,
-    out: &mut Buffered<W>,
-    telling: Telling,
-    beginning: Beginning,
-    profile: &Profile,
-) -> Result<Totals, JudgeError>
-    ensures told { EndsAs
-        (λ judged all. ToldInParts beginning telling profile.now (option_map (rows_within greatest_limit) (R.remaining reader)) judged
-        (held_contents W.contents out.old) all)
-        result (contents_behind W.contents out.new) }
-    ensures kind { (e : CaptureError) → result ≡ Err (JudgeError.Capture e)
-        → e.kind ≢ CaptureKind.OutOfMemory }
-    ensures header { IfSome (R.remaining reader) (λ text. (e : CaptureError)
-        → result ≡ Err (JudgeError.Capture e) → e.row ≢ 0 → HasHeader (rows_within greatest_limit text)) }
-{
-    let judged = judge_parts_for(alloc, reader, out, telling, beginning, profile);
-    ended(out, judged)
-}
-
-/// Judges the capture as the verb says, each exchange of an explanation in this detail, and writes the report.
-fn tell<R: Read + Drop, W: Write>(
-    alloc: Global,
-    reader: R,
-    writer: &mut W,
-    verb: Verb,
-    detail: Detail,
-    beginning: Beginning,
-    profile: &Profile,
-) -> Result<Verdict, JudgeError>
-    ensures answer { IfSome (R.remaining reader)
-        (λ text. IfSome (answer_of result) (IsTheAnswer beginning profile.now (rows_of text))) }
-    ensures told { TellsFor verb detail beginning profile.now (option_map rows_of (R.remaining reader))
-        (W.contents writer.old) result (W.contents writer.new) }
-    ensures stopped { IfSome (R.remaining reader)
-        (λ text. IfErr result (StoppedBefore beginning profile.now (rows_of text))) }
-    ensures kind { (e : CaptureError) → result ≡ Err (JudgeError.Capture e)
-        → e.kind ≢ CaptureKind.OutOfMemory }
-    ensures can_be { CanBeResult result }
-{
-    match verb {
-        Verb::Check => judge_for(alloc, reader, writer, View::Verdict, beginning, profile),
-        Verb::Explain => {
-            let view = View::Explain(detail);
-            judge_for(alloc, reader, writer, view, beginning, profile)
+    let beginning = job.asked.beginning;
+    match job.asked.report {
+        Report::Run => {
+            let judged = tell_run(alloc, reader, out, job);
+            outcome(&ended(out, judged))
         }
-        Verb::Run => tell_run(
-            writer,
-            judge_with_run_for(alloc, reader, beginning, profile),
-            profile,
-        ),
-        Verb::Why => {
-            let found = judge_with_contradiction_for(alloc, reader, beginning, profile);
-            tell_why(alloc, writer, found, profile)
+        Report::ToBreak(view) => {
+            let judged = judge_for(alloc, reader, out, view, beginning, &job.profile);
+            outcome(&ended(out, judged))
+        }
+        Report::Parts(view) => {
+            let judged = judge_parts_for(alloc, reader, out, view, beginning, &job.profile);
+            outcome_in_parts(&ended(out, judged))
         }
     }
 }
 
+/// Judges the capture to its first break, and writes the text of its run where there is one.
+fn tell_run<R: Read + Drop, W: Write>(
+    alloc: Global,
+    reader: R,
+    writer: &mut W,
+    job: &Job,
+) -> Result<Verdict, JudgeError>
+    ensures { IsJudgedWithRun job.now (R.remaining reader) (W.contents writer.old) result (W.contents writer.new) }
+{
+    let found = judge_with_run_for(alloc, reader, job.asked.beginning, &job.profile);
+    write_run(writer, found, &job.profile)
+}
+
 /// Writes the text of a run where there is one, and answers its verdict.
-fn tell_run<W: Write>(
+fn write_run<W: Write>(
     writer: &mut W,
     found: Result<RunVerdict, JudgeError>,
     profile: &Profile,
@@ -216,45 +103,6 @@ fn verdict_of(run: &RunVerdict) -> Verdict
         RunVerdict::No { at, reason } => Verdict::No {
             at: *at,
             reason: *reason,
-        },
-    }
-}
-
-/// Writes the text of why a verdict is a no where there is a verdict, and answers that verdict.
-fn tell_why<W: Write>(
-    alloc: Global,
-    writer: &mut W,
-    found: Result<WhyVerdict, JudgeError>,
-    profile: &Profile,
-) -> Result<Verdict, JudgeError>
-    ensures { WritesWhy profile.now found result (W.contents writer.old) (W.contents writer.new) }
-{
-    let why = found?;
-    write_why_for(alloc, writer, &why, profile)?;
-    Ok(verdict_of_why(&why))
-}
-
-/// The verdict alone.
-fn verdict_of_why(why: &WhyVerdict) -> Verdict
-    ensures { result ≡ verdict_of_why why.now }
-{
-    match why {
-        WhyVerdict::Yes {
-            records,
-            exchanges,
-            tail,
-        } => Verdict::Yes {
-            records: *records,
-            exchanges: *exchanges,
-            tail: *tail,
-        },
-        WhyVerdict::Break { at, reason, .. } => Verdict::No {
-            at: *at,
-            reason: *reason,
-        },
-        WhyVerdict::Contradiction { at, .. } => Verdict::No {
-            at: *at,
-            reason: Reason::NoRun,
         },
     }
 }

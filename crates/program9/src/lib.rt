@@ -15,8 +15,6 @@ mod version;
 
 pub use buffered::Buffered;
 pub use ending::{End, Message, Outcome, Unopened, UnreadSheet, WhyUnopened};
-pub use judging::{
-    judge_and_flush, judge_and_flush_for, judge_parts_and_flush, judge_parts_and_flush_for,
-};
+pub use judging::{Job, judge_and_flush};
 pub use program::run_program;
 pub use status::{outcome, outcome_in_parts};

@@ -1,36 +1,30 @@
 //! From the words of the command line to how the program ends.
-ghost use Rattle.std.specs.Prelude.{◌≡◌};
+ghost use Rattle.std.specs.Prelude.{◌≡◌, IfErr, IfOk};
 ghost use Rattle.std.specs.Fn.{FnOnceReturnsAt};
-ghost use Rattle.program9.specs.Output.{contents_behind, held_contents};
-ghost use Rattle.program9.specs.Program.{EndsCapture, EndsJudged, EndsProgram, EndsTask, EndsWithout, beginning_of, detail_of, told_of_parts};
 ghost use Rattle.program9.specs.Opening.{outcome_unopened, why_of};
-ghost use Rattle.program9.specs.Outcome.{without_write_fault};
+ghost use Rattle.program9.specs.Outcome.{told_after, without_write_fault};
+ghost use Rattle.program9.specs.Output.{contents_behind};
+ghost use Rattle.program9.specs.Program.{Begins, EndsBefore, EndsProgram, EndsTask, EndsWithout};
 
 use crate::buffered::Buffered;
 use crate::ending::{End, Message, Outcome, Unopened, WhyUnopened};
-use crate::judging::{judge_and_flush_for, judge_parts_and_flush_for};
+use crate::judging::{Job, judge_and_flush};
 use crate::sheet::find_deck;
-use crate::status::{outcome, outcome_in_parts};
 use crate::version::tell_version;
 use deck9::Profile;
-use judge9::{Beginning, Detail, Telling, View};
 use std::alloc::Global;
 use std::io::{self, Read, Write};
-use words9::{Task, Verb, WordsFault, read_words};
+use words9::{Task, WordsFault, read_words};
 
-/// What is to be done with a capture.
-#[derive(Clone, Copy)]
-struct Asked {
-    /// What is judged and written.
-    verb: Verb,
-    /// How an explanation tells each exchange.
-    detail: Detail,
-    /// Whether the judging goes on after a break.
-    all: bool,
-    /// With which record it begins.
-    beginning: Beginning,
-    /// Whether each line is handed on as soon as it is complete.
-    line_buffered: bool,
+/// A task whose judging can begin.
+#[derive(Drop)]
+struct Begun<R: Read + Drop, W: Write + Drop> {
+    /// The capture, which is opened.
+    reader: R,
+    /// The writer of the report, behind a buffer that holds nothing yet.
+    out: Buffered<W>,
+    /// What is asked of the capture, and for which deck.
+    job: Job,
 }
 
 /// The program from its words, or from why there are none, to its end: reads the task, reads the deck's sheet that it names, opens
@@ -44,7 +38,8 @@ struct Asked {
 /// * the `Outcome` of the judging that the words ask for, without the message of a write fault where `out` is a pipe whose reader is
 ///   gone: with their verb, at their rate, with hands where they say so, for a deck that does what the sheet says, from the first
 ///   record that may begin a command where they say `--sync`, with `explain` each exchange with its bytes where they say `--bytes`,
-///   and with `check`, `explain` and `why` part by part where they say `--all`;
+///   and with `check`, `explain` and `why` part by part where they say `--all`; its report went through a buffer, which hands on each
+///   line at once exactly where they say `--line-buffered`;
 /// * status 3 with `UnreadableSheet`, the file and what is wrong, where the sheet is none; status 4 with `CannotOpenSheet`, the file
 ///   and the reason, where `sheet_opener` or its reader failed: nothing is written;
 /// * status 4 with `CannotOpen`, the file and the reason where `opener` failed: nothing is written;
@@ -66,8 +61,8 @@ pub fn run_program<
 ) -> (End, W)
     requires sheet { G.IsAlwaysCallable sheet_opener }
     requires capture { F.IsAlwaysCallable opener }
-    ensures { EndsProgram (record { opens = FnOnceReturnsAt F.FnOnce opener; coming = R.remaining; opens_sheet = FnOnceReturnsAt G.FnOnce sheet_opener; coming_sheet = S.remaining })
-        words (W.contents out) result.0 (W.contents result.1) }
+    ensures { EndsProgram (record { opens = FnOnceReturnsAt F.FnOnce opener; coming = R.remaining; opens_sheet = FnOnceReturnsAt G.FnOnce sheet_opener; coming_sheet = S.remaining; contents = W.contents })
+        words out result.0 (W.contents result.1) }
 {
     let words = match words {
         Ok(words) => words,
@@ -106,135 +101,96 @@ fn carry_out<
 >(alloc: Global, task: Task, sheet_opener: G, opener: F, out: W) -> (Outcome, W)
     requires sheet { G.IsAlwaysCallable sheet_opener }
     requires capture { F.IsAlwaysCallable opener }
-    ensures { EndsTask (record { opens = FnOnceReturnsAt F.FnOnce opener; coming = R.remaining; opens_sheet = FnOnceReturnsAt G.FnOnce sheet_opener; coming_sheet = S.remaining })
-        task (W.contents out) result.0 (W.contents result.1) }
+    ensures { EndsTask (record { opens = FnOnceReturnsAt F.FnOnce opener; coming = R.remaining; opens_sheet = FnOnceReturnsAt G.FnOnce sheet_opener; coming_sheet = S.remaining; contents = W.contents })
+        task out result.0 (W.contents result.1) }
+{
+    match begin(alloc, task, sheet_opener, opener, out) {
+        Ok(begun) => {
+            let Begun {
+                reader,
+                mut out,
+                job,
+            } = begun;
+            let judged = judge_and_flush(alloc, reader, &mut out, &job);
+            taken_back(out, judged)
+        }
+        Err(ended) => ended,
+    }
+}
+
+/// Reads the task's sheet, and then opens its capture and makes the buffer: what the judging needs; or the end, and the writer as it
+/// was.
+fn begin<
+    G: FnOnce(&String) -> io::Result<S>,
+    S: Read + Drop,
+    F: FnOnce(&Option<String>) -> io::Result<R>,
+    R: Read + Drop,
+    W: Write + Drop,
+>(
+    alloc: Global,
+    task: Task,
+    sheet_opener: G,
+    opener: F,
+    out: W,
+) -> Result<Begun<R, W>, (Outcome, W)>
+    requires sheet { G.IsAlwaysCallable sheet_opener }
+    requires capture { F.IsAlwaysCallable opener }
+    ensures begins { IfOk result (λ b. Begins (record { opens = FnOnceReturnsAt F.FnOnce opener; coming = R.remaining; opens_sheet = FnOnceReturnsAt G.FnOnce sheet_opener; coming_sheet = S.remaining; contents = W.contents }) task out b.reader b.out b.job) }
+    ensures ends { IfErr result (λ e. EndsBefore (record { opens = FnOnceReturnsAt F.FnOnce opener; coming = R.remaining; opens_sheet = FnOnceReturnsAt G.FnOnce sheet_opener; coming_sheet = S.remaining; contents = W.contents }) task e.0) }
+    ensures untouched { IfErr result (λ e. e.1 ≡ out) }
 {
     let Task {
-        verb,
+        asked,
         file,
         rate,
         hands,
         deck,
-        all,
-        sync,
-        bytes,
-        line_buffered,
     } = task;
-    match find_deck(alloc, deck, sheet_opener) {
-        Ok(deck) => {
-            let profile = Profile { rate, hands, deck };
-            let asked = Asked {
-                verb,
-                detail: detail_of(bytes),
-                all,
-                beginning: beginning_of(sync),
-                line_buffered,
-            };
-            judge_capture(alloc, file, opener, asked, &profile, out)
+    let deck = match find_deck(alloc, deck, sheet_opener) {
+        Ok(deck) => deck,
+        Err(end) => return Err((end, out)),
+    };
+    let reader = match opener(&file) {
+        Ok(reader) => reader,
+        Err(e) => return Err((not_opened(file, &e), out)),
+    };
+    let profile = Profile { rate, hands, deck };
+    match Buffered::new(alloc, out, asked.line_buffered) {
+        Ok(out) => {
+            let job = Job { asked, profile };
+            Ok(Begun { reader, out, job })
         }
-        Err(end) => (end, out),
+        Err(out) => Err((Outcome::new(5, Message::NoMemory), out)),
     }
 }
 
-/// Opens the capture, judges it and hands the report on.
-fn judge_capture<F: FnOnce(&Option<String>) -> io::Result<R>, R: Read + Drop, W: Write + Drop>(
-    alloc: Global,
-    file: Option<String>,
-    opener: F,
-    asked: Asked,
-    profile: &Profile,
-    out: W,
-) -> (Outcome, W)
-    requires { F.IsAlwaysCallable opener }
-    ensures { EndsCapture (FnOnceReturnsAt F.FnOnce opener) R.remaining file asked.verb asked.detail asked.all asked.beginning profile.now (W.contents out) result.0 (W.contents result.1) }
+/// The end, and the writer from behind the buffer that the report of this judging went through.
+fn taken_back<W: Write + Drop>(out: Buffered<W>, judged: Outcome) -> (Outcome, W)
+    ensures end { result.0 ≡ told_after out.held.failed judged }
+    ensures writer { W.contents result.1 ≡ contents_behind W.contents out }
 {
-    let reader = match opener(&file) {
-        Ok(reader) => reader,
-        Err(e) => return (not_opened(file, &e), out),
-    };
-    let mut out = match Buffered::new(alloc, out, asked.line_buffered) {
-        Ok(out) => out,
-        Err(out) => return (Outcome::new(5, Message::NoMemory), out),
-    };
-    let end = judge_task(alloc, reader, &mut out, asked, profile);
-    let end = if out.reader_is_gone() {
-        without_write_fault(end)
-    } else {
-        end
-    };
+    let end = told_after(out.failed(), judged);
     (end, out.into_writer())
 }
 
-/// The same end, which says nothing of a write fault: whoever ended the reader of a pipe knows of it.
+/// The end after this one of a judging, where a write or a flush may have failed so: nothing is said of a write fault where the
+/// reader of a pipe is gone, since whoever ended it knows.
+fn told_after(failed: Option<io::ErrorKind>, end: Outcome) -> Outcome
+    ensures { result ≡ told_after failed end }
+{
+    match failed {
+        Some(io::ErrorKind::BrokenPipe) => without_write_fault(end),
+        _ => end,
+    }
+}
+
+/// The same end, which says nothing of a write fault.
 fn without_write_fault(end: Outcome) -> Outcome
     ensures { result ≡ without_write_fault end }
 {
     match end.message {
         Message::WriteFault => Outcome::new(end.status, Message::Nothing),
         _ => end,
-    }
-}
-
-/// Judges the capture with the verb, part by part where it goes on after a break, and hands the report on: the end.
-fn judge_task<R: Read + Drop, W: Write + Drop>(
-    alloc: Global,
-    reader: R,
-    out: &mut Buffered<W>,
-    asked: Asked,
-    profile: &Profile,
-) -> Outcome
-    requires line_buffered { out.old.held.line_buffered ≡ asked.line_buffered }
-    ensures { EndsJudged (told_of_parts asked.verb asked.detail asked.all) asked.verb asked.detail asked.beginning profile.now (R.remaining reader)
-        (held_contents W.contents out.old) result (contents_behind W.contents out.new) }
-{
-    match told_of_parts(asked.verb, asked.detail, asked.all) {
-        Some(telling) => outcome_in_parts(&judge_parts_and_flush_for(
-            alloc,
-            reader,
-            out,
-            telling,
-            asked.beginning,
-            profile,
-        )),
-        None => outcome(&judge_and_flush_for(
-            alloc,
-            reader,
-            out,
-            asked.verb,
-            asked.detail,
-            asked.beginning,
-            profile,
-        )),
-    }
-}
-
-/// How an explanation tells each exchange.
-fn detail_of(bytes: bool) -> Detail
-    ensures { result ≡ detail_of bytes }
-{
-    if bytes { Detail::Bytes } else { Detail::Names }
-}
-
-/// With which record the judging begins.
-fn beginning_of(sync: bool) -> Beginning
-    ensures { result ≡ beginning_of sync }
-{
-    if sync {
-        Beginning::FirstCommand
-    } else {
-        Beginning::FirstRecord
-    }
-}
-
-/// What is told of each part where the judging goes on after a break. Where it ends at the first, there is nothing.
-fn told_of_parts(verb: Verb, detail: Detail, all: bool) -> Option<Telling>
-    ensures { result ≡ told_of_parts verb detail all }
-{
-    match verb {
-        Verb::Check if all => Some(Telling::Shown(View::Verdict)),
-        Verb::Explain if all => Some(Telling::Shown(View::Explain(detail))),
-        Verb::Why if all => Some(Telling::Why),
-        Verb::Check | Verb::Explain | Verb::Run | Verb::Why => None,
     }
 }
 

@@ -4,7 +4,7 @@ ghost use Rattle.program9.specs.Outcome.{outcome_in_parts, outcome_of, outcome_r
 
 use crate::ending::{Message, Outcome};
 use capture9::CaptureKind;
-use judge9::{JudgeError, Totals, Verdict};
+use report9::{JudgeError, Totals, Verdict};
 
 /// How the program ends after a judging; the statuses are a choice of these rules. Takes no memory.
 ///

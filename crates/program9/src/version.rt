@@ -2,8 +2,8 @@
 ghost use Rattle.program9.specs.Version.{TellsVersion};
 
 use crate::ending::{Message, Outcome};
+use report9::write_all;
 use std::io::Write;
-use text9::write_all;
 use words9::VERSION_LINE;
 
 /// Writes the program's name and version: the end, and the writer as it is left. Takes no memory.

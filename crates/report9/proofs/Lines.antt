@@ -1,9 +1,11 @@
 -- The lines of a run, and those of a record that breaks a rule of pairing, one after another.
-use Rattle.report9.proofs.Words.{[], ap, append-nil, append_assoc, Appends, Appends-trans, AppendsPart, end_before, EndedExchange, Exchange, first_part}
-use Rattle.report9.proofs.Words.{inl, inr, last_time-last, length, line_of_open, line_of_state, LineByte, lines_of_run, List, Option, part_after}
-use Rattle.report9.proofs.Words.{Global, lines_of_break, Open, Reason, Vec, WhyVerdict, ◌≢◌}
-use Rattle.verdict9.specs.declared.why_verdict.WhyVerdict.TheVariants as why
+use Rattle.report9.proofs.Words.{[], ap, append-nil, append_assoc, Appends, Appends-trans, AppendsPart, end_before, EndedExchange, Exchange}
+use Rattle.report9.proofs.Words.{inl, inr, last_time-last, length, line_of_open, line_of_state, LineByte, lines_of_run, List, Option}
+use Rattle.report9.proofs.Words.{arith, bytes_of, codes, drop, drop-cons, get_or, hex_byte, hex_bytes, None, suc, ◌<◌, ◌∙◌}
+use Rattle.report9.proofs.Words.{Global, lines_of_break, Open, Reason, Vec, WhyNo, Wire, ◌≢◌}
+use Rattle.report9.specs.declared.why_no.WhyNo.TheVariants as why
 use Rattle.report9.proofs.Words.{Profile, records_of, refl, slice_get, Some, State, sym, ℕ, ◌++◌, ◌+◌, ◌-◌, ◌∷◌, ◌≡◌, ◌⊎◌}
+use Rattle.report9.proofs.WriteLemmas.{first_part, part_after}
 
 -- all the lines were written but those of these exchanges and states, which are left
 pub record LinesSoFar (profile : Profile) (past : ℕ) (exchanges : List Exchange) (states : List State) (es : List Exchange) (ss : List State) (at : ℕ)
@@ -45,18 +47,29 @@ lines-end {profile = profile} {es = es} {ss = ss} {at = at} h none = rw (h.rest,
 -- ---- the lines of a record that breaks a rule of pairing
 
 -- where no record is open, no line is put
-pub no_line : (before : ℕ) (words progress : List ℕ) (records : List LineByte) (l : List ℕ) → length records ≡ 0
-    → l ≡ l ++ line_of_open before words progress records
+pub no_line : (p : Profile) (at : ℕ) (o : Open) (wire breaking : Wire) (records : List LineByte) (l : List ℕ) → None ≡ slice_get records 0
+    → l ≡ l ++ line_of_open p at o wire breaking records
 unfolding line_of_open
-no_line before words progress [] l none = sym (append-nil l)
-no_line before words progress (r ∷ records) l none = cc
+no_line p at o wire breaking [] l none = sym (append-nil l)
+no_line p at o wire breaking (r ∷ records) l none = cc
 
--- for another verdict than a break no line is put
-pub no_break : (p : Profile) (v : WhyVerdict) (l : List ℕ)
+-- the bytes of one record more
+pub bytes_more : (records : List LineByte) (i : ℕ) (d : LineByte) (before l mid new whole : List ℕ) → i < length records
+    → l ++ hex_bytes before (bytes_of (drop i records)) ≡ whole → mid ≡ l ++ before → new ≡ mid ++ hex_byte (get_or records i d).byte
+    → new ++ hex_bytes (codes " ") (bytes_of (drop (i + 1) records)) ≡ whole
+bytes_more records i d before l mid new whole h so_far first second =
+    let r = get_or records i d in
+    let rest = hex_bytes (codes " ") (bytes_of (drop (i + 1) records)) in
+    let place : suc i ≡ i + 1 = omega arith in
+    let split : drop i records ≡ r ∷ drop (i + 1) records = drop-cons records i d h ∙ ap (λ k. r ∷ drop k records) place in
+    let bytes : l ++ (before ++ hex_byte r.byte ++ rest) ≡ whole = rw split at so_far in
+    rw (second, first) (ap (λ t. t ++ rest) (append_assoc l before (hex_byte r.byte)) ∙ append_assoc l (before ++ hex_byte r.byte) rest ∙ bytes)
+
+-- where no run remains no line is put
+pub no_break : (p : Profile) (v : WhyNo) (l : List ℕ)
     → ((at : ℕ) (reason : Reason) (tail : Vec LineByte Global) (o : Open) (before : Option EndedExchange) (r : LineByte) → v ≢ why.Break at reason tail o before r)
     → l ≡ l ++ lines_of_break p v
 unfolding lines_of_break
-no_break p (why.Yes records exchanges tail) l other = sym (append-nil l)
 no_break p (why.Break at reason tail o before r) l other = absurd (other at reason tail o before r refl)
 no_break p (why.Contradiction at exchanges places known shown) l other = sym (append-nil l)
 

@@ -1,2 +1,11 @@
+pub mod Bytes
+pub mod Error
+pub mod ExchangeBytes
+pub mod Explanation
+pub mod Lines
+pub mod OpenRecords
+pub mod Row
 pub mod RunText
 pub mod WhyText
+pub mod Working
+pub mod Writing

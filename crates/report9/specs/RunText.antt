@@ -10,12 +10,12 @@ use Rattle.deck9.specs.declared.state.Entry.{Entry}
 use Rattle.deck9.specs.declared.state.Entry.TheVariants.{Clear, At}
 use Rattle.deck9.specs.declared.profile.Profile.{Profile}
 use Rattle.deck9.specs.declared.state.State.{State}
-use Rattle.verdict9.specs.declared.run_verdict.RunVerdict.{RunVerdict}
-use Rattle.verdict9.specs.declared.run_verdict.RunVerdict.TheVariants as run
-use Rattle.verdict9.specs.declared.verdict.Verdict.TheVariants as verdict
-use Rattle.text9.specs.Explanation.{text_of_knowledge}
+use Rattle.report9.specs.declared.run_verdict.RunVerdict.{RunVerdict}
+use Rattle.report9.specs.declared.run_verdict.RunVerdict.TheVariants as run
+use Rattle.report9.specs.declared.verdict.Verdict.TheVariants as verdict
+use Rattle.report9.specs.Explanation.{text_of_knowledge}
 use Rattle.block9.specs.Exchange.{records_of}
-use Rattle.verdict9.specs.Lines.{line_of}
+use Rattle.report9.specs.Lines.{line_of}
 
 -- all that can be known of a register: what it holds
 abbrev pub known_entry : Entry → KnownEntry

@@ -4,7 +4,7 @@
 -- breaks; and the line of the verdict.
 use Rattle.std.specs.Prelude.{ℕ, ◌+◌, ◌-◌, ◌==◌, ◌&&◌, nat_lt, not, Bool, false, if◌then◌else◌, Option, Some, None, is_none, List, [], ◌∷◌, ◌++◌, length, take, drop, codes}
 use Rattle.std.specs.Fmt.{decimal}
-use Rattle.std.specs.List.{list_all}
+use Rattle.std.specs.List.{list_all, list_any}
 use Rattle.capture9.specs.declared.line_byte.LineByte.{LineByte}
 use Rattle.capture9.specs.declared.line_byte.Wire.{Wire}
 use Rattle.capture9.specs.declared.line_byte.Wire.TheVariants.{Controller, Deck}
@@ -20,29 +20,25 @@ use Rattle.deck9.specs.declared.mode_set.ModeSet.{ModeSet}
 use Rattle.deck9.specs.declared.profile.Profile.{Profile}
 use Rattle.deck9.specs.Mode.{every_mode}
 use Rattle.deck9.specs.ModeSet.{has}
-use Rattle.why9.specs.Contradiction.{is_among}
-use Rattle.verdict9.specs.declared.verdict.Verdict.TheVariants as verdict
-use Rattle.verdict9.specs.declared.why_verdict.EndedExchange.{EndedExchange}
-use Rattle.verdict9.specs.declared.why_verdict.WhyVerdict.{WhyVerdict}
-use Rattle.verdict9.specs.declared.why_verdict.WhyVerdict.TheVariants as why
-use Rattle.text9.specs.Bytes.{hex_byte, hex_bytes}
-use Rattle.text9.specs.ExchangeBytes.{records_told, text_of_command_sent, text_of_exchange, text_of_modes, text_of_records, text_of_reply_sent, words_of}
-use Rattle.text9.specs.Explanation.{text_of_fields}
+use Rattle.report9.specs.declared.verdict.Verdict.TheVariants as verdict
+use Rattle.report9.specs.declared.why_no.EndedExchange.{EndedExchange}
+use Rattle.report9.specs.declared.why_no.WhyNo.{WhyNo}
+use Rattle.report9.specs.declared.why_no.WhyNo.TheVariants as why
+use Rattle.report9.specs.Bytes.{hex_byte, hex_bytes}
+use Rattle.report9.specs.ExchangeBytes.{records_told, text_of_command_sent, text_of_exchange, text_of_modes, text_of_records, text_of_reply_sent, words_of}
+use Rattle.report9.specs.Explanation.{text_of_fields}
 use Rattle.block9.specs.Exchange.{records_in, records_of}
-use Rattle.verdict9.specs.Lines.{line_of}
+use Rattle.report9.specs.Lines.{line_of}
 
 -- ---- lines
 
--- the line of an exchange whose reply is one of those that contradict; the record of this number is its last
-unfoldable pub line_of_contradicting : Profile → ℕ → Exchange → List ℕ
-line_of_contradicting p at e = text_of_exchange p at e ++ codes "\n"
-
--- the lines of those exchanges that are at one of the places; the first of these exchanges is at `place`, and the record of this
--- number is the last before it
+-- the lines of those exchanges that are at one of the places, whose replies contradict one another; the first of these exchanges
+-- is at `place`, and the record of this number is the last before it
 abbrev pub lines_at : Profile → List ℕ → ℕ → ℕ → List Exchange → List ℕ
 lines_at p places place at [] = []
 lines_at p places place at (e ∷ es) =
-    (if is_among places place then line_of_contradicting p (at + records_of e) e else []) ++ lines_at p places (place + 1) (at + records_of e) es
+    (if list_any (λ p. p == place) places then text_of_exchange p (at + records_of e) e ++ codes "\n" else [])
+    ++ lines_at p places (place + 1) (at + records_of e) es
 
 -- the modes that the deck could show, and `any` where that is every one
 unfoldable pub text_of_shown : ModeSet → List ℕ
@@ -54,15 +50,13 @@ line_of_could_show profile known shown = codes "could show: shown " ++ text_of_s
 
 -- ---- the lines of a record that breaks a rule of pairing
 
--- the line of the exchange before, where no record is open: as that of one that contradicts, without what status data say;
--- the record of this number is its last
-unfoldable pub line_of_before : Profile → ℕ → Exchange → List ℕ
-line_of_before p at e =
-    records_told at e ++ (codes ": " ++ text_of_command_sent p e) ++ (codes " -> " ++ text_of_reply_sent p e) ++ codes "\n"
-
-abbrev pub line_if_ended : Profile → ℕ → Option EndedExchange → List ℕ
+-- the line of the exchange before, where there is one: as that of one that contradicts, without what status data say; the record
+-- of this number is its last
+unfoldable pub line_if_ended : Profile → ℕ → Option EndedExchange → List ℕ
 line_if_ended p at None = []
-line_if_ended p at (Some ended) = line_of_before p at ended.exchange
+line_if_ended p at (Some ended) =
+    records_told at ended.exchange ++ (codes ": " ++ text_of_command_sent p ended.exchange)
+    ++ (codes " -> " ++ text_of_reply_sent p ended.exchange) ++ codes "\n"
 
 -- the record that breaks would end a block on this wire: it is on it, and the block wants one byte more than came
 abbrev pub would_end : Wire → Wire → ℕ → ℕ → Bool
@@ -76,16 +70,31 @@ progress_told wire breaking came wanted =
     if nat_lt came wanted && not (would_end wire breaking came wanted)
     then (codes ", " ++ decimal came) ++ (codes " of " ++ decimal wanted) ++ codes " bytes" else []
 
--- the line of a block that is unfinished, or whose reply is not: these words, the bytes of its records, and how far it has come
-unfoldable pub line_of_open : ℕ → List ℕ → List ℕ → List LineByte → List ℕ
-line_of_open at words progress [] = []
-line_of_open at words progress (r ∷ records) =
-    text_of_records (at + 1) (at + length (r ∷ records)) r.time_us ++ (codes ": " ++ words) ++ hex_bytes [] (bytes_of (r ∷ records)) ++ progress ++ codes "\n"
+-- of what is open, how many bytes came of the block on this wire, and how many it wants: none where it is a complete command
+abbrev pub came_on : Open → Wire → ℕ
+came_on o Controller = o.asked
+came_on o Deck = o.answered
 
--- what comes before the bytes of a command: its words, where it is complete
-abbrev pub words_if_whole : Profile → Option Command → List ℕ
-words_if_whole p None = []
-words_if_whole p (Some c) = words_of p c
+abbrev pub wanted_on : Open → Wire → ℕ
+wanted_on o Controller = if is_none o.command then o.wanted else 0
+wanted_on o Deck = o.wanted
+
+-- what comes before the bytes of a block: the words of a command, where it is complete, and the arrow of a reply
+abbrev pub lead_of : Profile → Open → Wire → List ℕ
+lead_of p o Deck = codes "-> "
+lead_of p o Controller = lead_of_command p o.command
+  where
+    lead_of_command : Profile → Option Command → List ℕ
+    lead_of_command p None = []
+    lead_of_command p (Some c) = words_of p c
+
+-- the line of the records of an open block on the first of these wires, where there are some, before a record that breaks on the
+-- second; so many records come before them
+unfoldable pub line_of_open : Profile → ℕ → Open → Wire → Wire → List LineByte → List ℕ
+line_of_open p at o wire breaking [] = []
+line_of_open p at o wire breaking (r ∷ records) =
+    text_of_records (at + 1) (at + length (r ∷ records)) r.time_us ++ (codes ": " ++ lead_of p o wire) ++ hex_bytes [] (bytes_of (r ∷ records))
+    ++ progress_told wire breaking (came_on o wire) (wanted_on o wire) ++ codes "\n"
 
 abbrev pub letter_of : Wire → List ℕ
 letter_of Controller = codes "C "
@@ -118,18 +127,13 @@ line_of_breaking at reason r end_us total =
     ++ (codes ": " ++ letter_of r.wire) ++ hex_byte r.byte
     ++ since_told end_us r ++ limit_told (limit_of reason) ++ sum_told reason total ++ codes "\n"
 
--- how many records a command has that is not complete
-abbrev pub wanted_of_command : Open → ℕ
-wanted_of_command o = if is_none o.command then o.wanted else 0
-
 -- the lines of the open records, which are those of a command, and after them those of its reply; so many come before them
 unfoldable pub lines_of_open : Profile → ℕ → List LineByte → Open → Wire → List ℕ
 lines_of_open p count tail o breaking =
-    line_of_open count (words_if_whole p o.command) (progress_told Controller breaking o.asked (wanted_of_command o)) (take o.asked tail)
-    ++ line_of_open (count + o.asked) (codes "-> ") (progress_told Deck breaking o.answered o.wanted) (drop o.asked tail)
+    line_of_open p count o Controller breaking (take o.asked tail) ++ line_of_open p (count + o.asked) o Deck breaking (drop o.asked tail)
 
 -- the lines of a break: that of the exchange before, or those of the open records, and that of the record that breaks
-unfoldable pub lines_of_break : Profile → WhyVerdict → List ℕ
+unfoldable pub lines_of_break : Profile → WhyNo → List ℕ
 lines_of_break p (why.Break at reason tail o before r) =
     line_if_ended p (at - (length tail.items + 1)) before
     ++ lines_of_open p (at - (length tail.items + 1)) tail.items o r.wire
@@ -138,8 +142,7 @@ lines_of_break p _ = []
 
 -- ---- the whole text
 
-abbrev pub text_of_why : Profile → WhyVerdict → List ℕ
-text_of_why profile (why.Yes records exchanges tail) = line_of (verdict.Yes records exchanges tail)
+abbrev pub text_of_why : Profile → WhyNo → List ℕ
 text_of_why profile (why.Break at reason tail o before r) =
     lines_of_break profile (why.Break at reason tail o before r) ++ line_of (verdict.No at reason)
 text_of_why profile (why.Contradiction at exchanges places known shown) =

@@ -1,17 +1,21 @@
 //! The text of a run of the deck, written line by line: that takes no memory, however long the run is.
 ghost use Rattle.std.specs.Prelude.{◌≡◌, ◌++◌, OnErr, OnOk, IfErr};
 ghost use Rattle.std.specs.Io.KnownBytes.{Appends};
-ghost use Rattle.verdict9.specs.Lines.{line_of};
-ghost use Rattle.text9.specs.Writing.{AppendsPart, Writes};
+ghost use Rattle.report9.specs.Lines.{line_of};
+ghost use Rattle.report9.specs.Writing.{AppendsPart, Writes};
 ghost use Rattle.report9.specs.RunText.{known_entry, known_state, line_of_state, lines_of_run, text_of_run};
-ghost use Rattle.verdict9.specs.declared.verdict.Verdict.TheVariants as verdict;
+ghost use Rattle.report9.specs.declared.verdict.Verdict.TheVariants as verdict;
 
+use crate::error::JudgeError;
+use crate::explanation::known::put_knowledge;
+use crate::pieces::{put_text, put_wide};
+use crate::run_verdict::RunVerdict;
+use crate::verdict_line::{put_no_line, put_yes_line};
+use crate::writing::{WriteFault, write_all};
 use arrayvec::{ArrayVec, CapacityError};
 use block9::{Exchange, Reason};
 use deck9::{Entry, Knowledge, Known, KnownEntry, Profile, State};
 use std::io::Write;
-use text9::{WriteFault, put_knowledge, put_text, put_wide, write_all};
-use verdict9::{JudgeError, RunVerdict, put_no_line, put_yes_line};
 
 /// A line of a run. By count the longest has 166 bytes.
 type Line = ArrayVec<u8, 256>;
@@ -68,7 +72,7 @@ fn write_lines_and_verdict<W: Write>(
     }
 }
 
-/// Writes a line for each exchange with the state after it; so many records come before the first exchange.
+/// Writes a line for each exchange with the state after it; `past` records come before the first exchange.
 fn write_lines<W: Write>(
     writer: &mut W,
     past: u32,

@@ -1,29 +1,26 @@
 //! The text of why a verdict is a no: the records that are open before the one that breaks a rule, or the replies that
 //! contradict one another and what the deck could show before the last of them.
 mod break_lines;
-mod exchange_line;
-mod modes;
 
-ghost use Rattle.std.specs.Prelude.{◌≡◌, ◌⊎◌, ◌-◌, ◌++◌, [], OnOk, IfErr};
-ghost use Rattle.std.specs.Io.KnownBytes.{Appends};
-ghost use Rattle.text9.specs.Writing.{AppendsPart};
+ghost use Rattle.std.specs.Prelude.{◌≡◌, ◌-◌, ◌++◌, [], OnOk};
 ghost use Rattle.block9.specs.Exchange.{records_in};
 ghost use Rattle.report9.specs.WhyText.{line_of_could_show, lines_at, text_of_shown, text_of_why};
 
+use crate::exchange_bytes::modes::put_modes;
+use crate::exchange_bytes::put_exchange;
+use crate::explanation::known::put_fields_for;
+use crate::pieces::put_text;
+use crate::verdict_line::put_no_line;
+use crate::why_no::WhyNo;
 use block9::{Exchange, Reason, records_in};
 use break_lines::put_break;
 use deck9::{Knowledge, ModeSet, Profile};
-use exchange_line::put_contradicting;
-use modes::is_every;
-use std::alloc::{AllocError, Global};
-use std::io::Write;
-use text9::{put_fields_for, put_modes, put_text, write_all};
-use verdict9::{JudgeError, WhyVerdict, put_no_line, put_yes_line};
+use std::alloc::AllocError;
 
-/// Writes why a verdict is a no: where no run of the deck remains a line for each of the replies that contradict one
-/// another, then what the deck could show when it gave the last of them; where a rule of blocks, pairing or timing is
+/// Puts why a record breaks a rule to the end of a buffer: where no run of the deck remains a line for each of the replies that
+/// contradict one another, then what the deck could show when it gave the last of them; where a rule of blocks, pairing or timing is
 /// broken a line for the records of the open command and one for those of its reply, or one for the exchange before where
-/// none is open, and one for the record that breaks; and in each case the line of the verdict.
+/// none is open, and one for the record that breaks; and in each case the line of the no.
 ///
 /// A line of open records tells their numbers, the time of the first of them in microseconds, the command's name and time
 /// where it is complete, their bytes, and how many of the block's bytes came where more are missing than the one that breaks.
@@ -33,50 +30,16 @@ use verdict9::{JudgeError, WhyVerdict, put_no_line, put_yes_line};
 /// with the bytes of both blocks, and what the reply says of the deck. With `Hands::Allowed` it is told whether the panel is
 /// on.
 ///
-/// The whole text is made before any of it is written. The writer is not flushed. The errors are:
-///
-/// * `OutOfMemory` where a growth of memory is refused: nothing was written.
-/// * `Write` where the writer failed, was interrupted or took no byte. No call is tried again, and what was taken until
-///   then is a first part of the text.
-pub fn write_why_for<W: Write>(
-    alloc: Global,
-    writer: &mut W,
-    verdict: &WhyVerdict,
-    profile: &Profile,
-) -> Result<(), JudgeError>
-    ensures ok { OnOk result
-        (Appends (W.contents writer.old) (W.contents writer.new) (text_of_why profile.now verdict.now)) }
-    ensures write { result ≡ Err JudgeError.Write
-        → AppendsPart (W.contents writer.old) (W.contents writer.new) (text_of_why profile.now verdict.now) }
-    ensures memory { result ≡ Err JudgeError.OutOfMemory → writer.new ≡ writer.old }
-    ensures kinds { IfErr result (λ e. (e ≡ JudgeError.Write) ⊎ (e ≡ JudgeError.OutOfMemory)) }
-{
-    let mut text = Vec::new(alloc);
-    put_why_for(&mut text, profile, verdict)?;
-    Ok(write_all(writer, text.as_slice())?)
-}
-
-/// Puts the text that [`write_why_for`] writes to the end of a buffer.
-///
 /// An error comes where the buffer has to grow and is refused; then a part of the text may be there.
-pub fn put_why_for(
-    text: &mut Vec<u8>,
-    profile: &Profile,
-    verdict: &WhyVerdict,
-) -> Result<(), AllocError>
-    ensures { OnOk result (text.new.items ≡ text.old.items ++ text_of_why profile.now verdict.now) }
+pub fn put_why_for(text: &mut Vec<u8>, profile: &Profile, why: &WhyNo) -> Result<(), AllocError>
+    ensures { OnOk result (text.new.items ≡ text.old.items ++ text_of_why profile.now why.now) }
 {
-    match verdict {
-        WhyVerdict::Yes {
-            records,
-            exchanges,
-            tail,
-        } => put_yes_line(text, *records, u64::from(*exchanges), *tail),
-        WhyVerdict::Break { at, reason, .. } => {
-            put_break(text, profile, verdict)?;
+    match why {
+        WhyNo::Break { at, reason, .. } => {
+            put_break(text, profile, why)?;
             put_no_line(text, *at, *reason)
         }
-        WhyVerdict::Contradiction {
+        WhyNo::Contradiction {
             at,
             exchanges,
             places,
@@ -90,7 +53,7 @@ pub fn put_why_for(
     }
 }
 
-/// Puts the lines of the exchanges at these places, the last of which ends with the record of this number.
+/// Puts a line for each exchange at one of these places. The last exchange ends with the record of the number `last`.
 fn put_lines(
     text: &mut Vec<u8>,
     profile: &Profile,
@@ -105,7 +68,8 @@ fn put_lines(
     for (place, exchange) in exchanges.iter().enumerate() {
         at += exchange.records() as u128;
         if places.contains(&place) {
-            put_contradicting(text, profile, at, exchange)?;
+            put_exchange(text, profile, at, exchange)?;
+            put_text(text, "\n")?;
         }
     }
     Ok(())
@@ -131,7 +95,7 @@ fn put_could_show(
 fn put_shown(text: &mut Vec<u8>, shown: ModeSet) -> Result<(), AllocError>
     ensures { OnOk result (text.new.items ≡ text.old.items ++ text_of_shown shown) }
 {
-    if is_every(shown) {
+    if shown.is_every() {
         return put_text(text, "any");
     }
     put_modes(text, shown)

@@ -198,7 +198,7 @@ impl<S: TimeSet> Part<S> {
         self.pairs.drift(deck)
     }
 
-    /// The deck is commanded to a mode, which it may also ignore.
+    /// The deck is commanded to a mode, which it may also ignore where `may_stay`.
     pub(crate) fn go(&mut self, may_stay: bool, goal: Mode)
         ensures { self.new ≡ where_remains (gone_part may_stay goal) self.old }
     {

@@ -6,12 +6,10 @@
 //! this leaves no choice. [`could_show_for`] tells what the deck could show when it gave the last of them.
 #![tactic(auto)]
 
-mod at_25;
 mod could_show;
 pub mod laws;
 mod question;
 mod search;
 
-pub use at_25::contradicting;
 pub use could_show::could_show_for;
 pub use search::contradicting_for;

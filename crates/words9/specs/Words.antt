@@ -11,6 +11,15 @@ use Rattle.clap.specs.declared.error.kind.ErrorKind.TheVariants.{DisplayVersion}
 use Rattle.tc25.specs.declared.rate.Rate.{Rate}
 use Rattle.tc25.specs.declared.rate.Rate.TheVariants as rate
 use Rattle.deck9.specs.declared.state.Hands.TheVariants as hands
+use Rattle.report9.specs.declared.detail.Detail.{Detail}
+use Rattle.report9.specs.declared.detail.Detail.TheVariants.{Bytes, Names}
+use Rattle.report9.specs.declared.verdict.Beginning.{Beginning}
+use Rattle.report9.specs.declared.verdict.Beginning.TheVariants.{FirstCommand, FirstRecord}
+use Rattle.report9.specs.declared.verdict.View.{View}
+use Rattle.report9.specs.declared.verdict.View.TheVariants as view
+use Rattle.words9.specs.declared.task.Asked.{Asked}
+use Rattle.words9.specs.declared.task.Report.{Report}
+use Rattle.words9.specs.declared.task.Report.TheVariants.{Parts, Run, ToBreak}
 use Rattle.words9.specs.declared.task.Task.{Task}
 use Rattle.words9.specs.declared.task.Verb.{Verb}
 use Rattle.words9.specs.declared.task.Verb.TheVariants as verb
@@ -110,18 +119,47 @@ abbrev pub is_on : Option Text → Bool
 is_on (Some text) = bytes_eq text (codes "true")
 is_on None = false
 
+-- what the view shows: where the words say `--all` of each part, and else to the first break
+abbrev pub shown : Bool → View → Report
+shown true v = Parts v
+shown false v = ToBreak v
+
+-- how an explanation tells each exchange, where the words say `--bytes` or not
+abbrev pub detail_of : Bool → Detail
+detail_of true = Bytes
+detail_of false = Names
+
+-- the report of a verb, where the words say `--all` or not, and `--bytes` or not
+abbrev pub report_of : Verb → Bool → Bool → Report
+report_of verb.Check all bytes = shown all view.Verdict
+report_of verb.Explain all bytes = shown all (view.Explain (detail_of bytes))
+report_of verb.Run all bytes = Run
+report_of verb.Why all bytes = shown all view.Why
+
+-- with which record the judging begins, where the words say `--sync` or not
+abbrev pub beginning_of : Bool → Beginning
+beginning_of true = FirstCommand
+beginning_of false = FirstRecord
+
+-- an option is among these rows
+abbrev pub has : Text → List Row → Bool
+has option rows = is_on (first_of option rows)
+
+-- what a verb asks for with these rows
+abbrev pub asked_of : Verb → List Row → Asked
+asked_of verb rows =
+    record { report = report_of verb (has (codes "all") rows) (has (codes "bytes") rows); beginning = beginning_of (has (codes "sync") rows); line_buffered = has (codes "line-buffered") rows }
+
 -- the program takes the words, and they give this task
 pub record GivesTask (names : RateNames) (words : List Text) (task : Task) : Type 0 where
+  pub verb : Verb
   pub rows : List Row
-  pub takes : TakesWords names words task.verb rows
+  pub takes : TakesWords names words verb rows
+  pub asked : task.asked ≡ asked_of verb rows
   pub file : option_map string_bytes task.file ≡ first_of (codes "FILE") rows
   pub rate : task.rate ≡ rate_of (first_of (codes "rate") rows)
-  pub hands : task.hands ≡ (if is_on (first_of (codes "hands") rows) then hands.Allowed else hands.None)
+  pub hands : task.hands ≡ (if has (codes "hands") rows then hands.Allowed else hands.None)
   pub deck : option_map string_bytes task.deck ≡ first_of (codes "deck") rows
-  pub all : task.all ≡ is_on (first_of (codes "all") rows)
-  pub sync : task.sync ≡ is_on (first_of (codes "sync") rows)
-  pub bytes : task.bytes ≡ is_on (first_of (codes "bytes") rows)
-  pub line_buffered : task.line_buffered ≡ is_on (first_of (codes "line-buffered") rows)
 
 -- it does not take them
 abbrev pub GivesNoTask : RateNames → List Text → Type 0

@@ -11,5 +11,5 @@ mod task;
 mod usage;
 mod words;
 
-pub use task::{Task, VERSION_LINE, Verb, WordsFault};
+pub use task::{Asked, Report, Task, VERSION_LINE, Verb, WordsFault};
 pub use words::read_words;

@@ -158,7 +158,7 @@ fn deck<'a>(alloc: Global) -> Arg<'a>
     ensures local { result.global ≡ false }
 {
     Arg::new(alloc, "deck").long("deck").value_name("FILE").help(
-        "A sheet of what this deck does of its own, as TOML: what it forgets, and through which modes it passes",
+        "A sheet of what this deck does of its own, as TOML: what commands are called, which replies they take, what they make it forget, and through which modes it passes",
     )
 }
 

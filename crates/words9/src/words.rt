@@ -3,13 +3,14 @@ ghost use Rattle.std.specs.Prelude.{◌≡◌, ◌≢◌, IfOk, MatchOption, Opt
 ghost use Rattle.std.specs.String.{string_bytes};
 ghost use Rattle.clap.specs.Words.{first_of, found_of, kind_of, rows_of};
 ghost use Rattle.clap.specs.declared.error.Error.{Error as ClapError};
-ghost use Rattle.words9.specs.Words.{AsksVersion, IsNoTask, IsTaskOf, MayAskVersion, is_on, name_of, rate_named, rate_of};
+ghost use Rattle.words9.specs.Words.{AsksVersion, IsNoTask, IsTaskOf, MayAskVersion, asked_of, beginning_of, is_on, name_of, rate_named, rate_of, report_of};
 
-use crate::task::{Task, Verb, WordsFault};
+use crate::task::{Asked, Report, Task, Verb, WordsFault};
 use crate::usage::{parsed, rate_names};
 use clap::error::ErrorKind;
 use clap::{ArgMatches, Error};
 use deck9::Hands;
+use report9::{Beginning, Detail, View};
 use std::alloc::{AllocError, Global};
 use tc25::Rate;
 
@@ -20,8 +21,8 @@ use tc25::Rate;
 /// file, and, but for `run`, at most once `--all` and at most once `--line-buffered`, and for `explain` at most once `--bytes`; or
 /// they are `--version` or `-V`. What else they may look like is `clap`'s own definition.
 ///
-/// * `Ok(task)` only where the definition takes the words. The task has the subcommand, the file and the options
-///   that it gives for them, and 25 frames a second where they name no rate.
+/// * `Ok(task)` only where the definition takes the words. The task asks for the report of the subcommand and its options, and has
+///   the file and the options that the definition gives for the words, and 25 frames a second where they name no rate.
 /// * `Err(Usage)` only where it does not take them, and they are not those that ask for the version. Words that ask for
 ///   help are not taken.
 /// * `Err(Version)` only where they ask for the version, and that is, or may be, the first thing that stops the definition.
@@ -56,21 +57,54 @@ pub fn read_words(alloc: Global, words: Vec<String>) -> Result<Task, WordsFault>
         Hands::None
     };
     let rate = rate_of(found);
-    let all = is_given(found, "all");
-    let sync = is_given(found, "sync");
-    let bytes = is_given(found, "bytes");
-    let line_buffered = is_given(found, "line-buffered");
+    let asked = asked_of(verb, found);
     Ok(Task {
-        verb,
+        asked,
         file,
         rate,
         hands,
         deck,
-        all,
-        sync,
-        bytes,
-        line_buffered,
     })
+}
+
+/// What the subcommand of this verb asks of the capture, by its options.
+fn asked_of(verb: Verb, found: &ArgMatches<'_>) -> Asked
+    ensures { result ≡ asked_of verb (rows_of (found_of found.now)) }
+{
+    Asked {
+        report: report_of(verb, is_given(found, "all"), is_given(found, "bytes")),
+        beginning: beginning_of(is_given(found, "sync")),
+        line_buffered: is_given(found, "line-buffered"),
+    }
+}
+
+/// The report of a verb, where the words say `--all` or not, and `--bytes` or not.
+fn report_of(verb: Verb, all: bool, bytes: bool) -> Report
+    ensures { result ≡ report_of verb all bytes }
+{
+    let view = match verb {
+        Verb::Check => View::Verdict,
+        Verb::Explain if bytes => View::Explain(Detail::Bytes),
+        Verb::Explain => View::Explain(Detail::Names),
+        Verb::Why => View::Why,
+        Verb::Run => return Report::Run,
+    };
+    if all {
+        Report::Parts(view)
+    } else {
+        Report::ToBreak(view)
+    }
+}
+
+/// With which record the judging begins, where the words say `--sync` or not.
+fn beginning_of(sync: bool) -> Beginning
+    ensures { result ≡ beginning_of sync }
+{
+    if sync {
+        Beginning::FirstCommand
+    } else {
+        Beginning::FirstRecord
+    }
 }
 
 /// The fault of words that `clap` refuses.

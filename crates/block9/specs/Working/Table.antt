@@ -44,9 +44,12 @@ abbrev pub is_soon : List LineByte → LineByte → Bool
 is_soon tail r = nat_le r.time_us (last_time tail + reply_limit)
 
 -- the record is of the deck, and begins its reply after the reply limit
+abbrev pub late_on : Place → Wire → Bool → Bool
+late_on AfterCommand Deck soon = not soon
+late_on _ _ soon = false
+
 abbrev pub is_late : Place → List LineByte → LineByte → Bool
-is_late AfterCommand tail r = not (is_soon tail r)
-is_late _ tail r = false
+is_late place tail r = late_on place r.wire (is_soon tail r)
 
 -- a record on the wire whose turn it is not
 abbrev pub wire_fault : Place → Wire → Bool → Option Reason

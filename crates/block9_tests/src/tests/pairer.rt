@@ -2,7 +2,8 @@
 
 use crate::tests::same;
 use block9::{
-    Block, Command, Exchange, LineRules, NamedReplies, Open, Pairer, Reason, ReplyLimit, Step,
+    Block, Command, Exchange, LineRules, NamedReplies, Open, Pairer, Reason, Refusal, ReplyLimit,
+    Step,
 };
 use capture9::Wire::{Controller, Deck};
 use capture9::{LineByte, Wire};
@@ -18,7 +19,7 @@ fn record(time_us: u64, wire: Wire, byte: u8) -> LineByte {
 }
 
 /// Feeds a record that is not before the last one.
-fn feed(rt: &impl Abort, pairer: &mut Pairer, line_byte: LineByte) -> Result<Step, Reason> {
+fn feed(rt: &impl Abort, pairer: &mut Pairer, line_byte: LineByte) -> Result<Step, Refusal> {
     if let Some(before) = pairer.last_time() {
         assert!(rt; before <= line_byte.time_us);
     }
@@ -32,8 +33,21 @@ fn take(rt: &impl Abort, pairer: &mut Pairer, line_byte: LineByte) -> (Step, usi
     }
     match pairer.feed(line_byte) {
         Ok(step) => (step, pairer.tail_len()),
-        Err(reason) => panic!(rt; "{reason:?} at {line_byte:?}"),
+        Err(refusal) => panic!(rt; "{refusal:?} at {line_byte:?}"),
     }
+}
+
+/// The answer to a record that breaks this rule and begins no late reply.
+fn refused(reason: Reason) -> Result<Step, Refusal> {
+    Err(Refusal {
+        reason,
+        late: false,
+    })
+}
+
+/// The answer to a record that breaks this rule and begins a late reply.
+fn refused_late(reason: Reason) -> Result<Step, Refusal> {
+    Err(Refusal { reason, late: true })
 }
 
 /// PLAY and the reply that acknowledges it, 400 microseconds after it.
@@ -93,7 +107,7 @@ fn a_record_that_breaks_a_rule_leaves_no_exchange(rt: HostRuntime) {
     same(
         &rt,
         feed(&rt, &mut pairer, stray),
-        Err(Reason::ReplyWithoutCommand),
+        refused(Reason::ReplyWithoutCommand),
         stray,
     );
     assert!(rt; pairer.exchange().is_none());
@@ -121,7 +135,7 @@ fn a_reason_stays(rt: HostRuntime) {
         record(9_999_999, Controller, 0x20),
     ] {
         let fault = feed(&rt, &mut pairer, line_byte);
-        same(&rt, fault, Err(Reason::WrongSum), line_byte);
+        same(&rt, fault, refused(Reason::WrongSum), line_byte);
         same(&rt, pairer.last_time(), Some(1_200), line_byte);
         same(&rt, pairer.tail(), [first, second].as_slice(), line_byte);
     }
@@ -146,12 +160,32 @@ fn a_late_reply_breaks_a_rule_where_the_limit_counts(rt: HostRuntime) {
     // a command's last record at 1,000, and the reply limit is 9,287
     for (reply_limit, at, byte, answer) in [
         (ReplyLimit::Counts, 10_287, 0x10, Ok(Step::Waiting)),
-        (ReplyLimit::Counts, 10_288, 0x10, Err(Reason::LateReply)),
-        (ReplyLimit::Counts, 10_288, 0x00, Err(Reason::LateReply)),
+        (
+            ReplyLimit::Counts,
+            10_288,
+            0x10,
+            refused_late(Reason::LateReply),
+        ),
+        (
+            ReplyLimit::Counts,
+            10_288,
+            0x00,
+            refused_late(Reason::LateReply),
+        ),
         (ReplyLimit::LeftAside, 10_287, 0x10, Ok(Step::Waiting)),
         (ReplyLimit::LeftAside, 10_288, 0x10, Ok(Step::LateReply)),
-        (ReplyLimit::LeftAside, 10_287, 0x00, Err(Reason::WrongGroup)),
-        (ReplyLimit::LeftAside, 10_288, 0x00, Err(Reason::WrongGroup)),
+        (
+            ReplyLimit::LeftAside,
+            10_287,
+            0x00,
+            refused(Reason::WrongGroup),
+        ),
+        (
+            ReplyLimit::LeftAside,
+            10_288,
+            0x00,
+            refused_late(Reason::WrongGroup),
+        ),
     ] {
         let mut pairer = after_play(&rt, reply_limit, 1_000);
         let first = record(at, Deck, byte);
@@ -162,11 +196,17 @@ fn a_late_reply_breaks_a_rule_where_the_limit_counts(rt: HostRuntime) {
             (reply_limit, at),
         );
     }
+    // the reason stays, and the next record begins no late reply
+    let mut pairer = after_play(&rt, ReplyLimit::Counts, 1_000);
+    let first = record(10_288, Deck, 0x10);
+    assert!(rt; feed(&rt, &mut pairer, first).is_err());
+    let answer = feed(&rt, &mut pairer, first);
+    same(&rt, answer, refused(Reason::LateReply), first);
     // a command that comes so late is no late reply
     let mut pairer = after_play(&rt, ReplyLimit::LeftAside, 1_000);
     let next = record(10_288, Controller, 0x20);
     let answer = feed(&rt, &mut pairer, next);
-    same(&rt, answer, Err(Reason::NoReply), next);
+    same(&rt, answer, refused(Reason::NoReply), next);
 }
 
 #[test]
@@ -186,7 +226,7 @@ fn an_exchange_with_a_late_reply_has_its_true_delay(rt: HostRuntime) {
     let mut pairer = after_play(&rt, ReplyLimit::LeftAside, 1_000);
     for (at, byte, answer) in [
         (13_000, 0x10, Ok(Step::LateReply)),
-        (23_288, 0x01, Err(Reason::ByteGap)),
+        (23_288, 0x01, refused(Reason::ByteGap)),
     ] {
         let line_byte = record(at, Deck, byte);
         same(&rt, feed(&rt, &mut pairer, line_byte), answer, line_byte);
@@ -204,8 +244,8 @@ fn a_wrong_reply_leaves_the_command_open(rt: HostRuntime) {
     for (at, byte, answer) in [
         (1_200, 0x10, Ok(Step::Waiting)),
         (1_600, 0x02, Ok(Step::Waiting)),
-        (2_000, 0x12, Err(Reason::WrongReply)),
-        (2_400, 0x11, Err(Reason::WrongReply)),
+        (2_000, 0x12, refused(Reason::WrongReply)),
+        (2_400, 0x11, refused(Reason::WrongReply)),
     ] {
         same(
             &rt,
@@ -252,7 +292,8 @@ fn a_preset_is_read_at_the_rate(rt: HostRuntime) {
         ] {
             let answer = feed(&rt, &mut pairer, record(time_us, wire, byte));
             let fault = (!is_taken).then_some(Reason::InvalidCommandTime);
-            same(&rt, answer.err(), fault, (rate, time_us));
+            let reason = answer.err().map(|refusal| refusal.reason);
+            same(&rt, reason, fault, (rate, time_us));
         }
         same(&rt, frame_in(pairer.open_command()), frame, rate);
         let last = feed(&rt, &mut pairer, record(4_000, Deck, 0x11));
@@ -314,7 +355,7 @@ fn what_is_open_is_told_after_each_record(rt: HostRuntime) {
     same(
         &rt,
         broken,
-        Err(Reason::ReplyInsideCommand),
+        refused(Reason::ReplyInsideCommand),
         "the deck sends inside a command",
     );
     same(

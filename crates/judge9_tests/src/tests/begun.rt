@@ -8,7 +8,7 @@ use block9::Reason;
 use capture9::{CaptureError, CaptureKind, ShownField};
 use deck9::{Hands, Profile};
 use judge9::{
-    Beginning, JudgeError, RunVerdict, Telling, Totals, Verdict, View, judge_for, judge_parts_for,
+    Beginning, JudgeError, RunVerdict, Totals, Verdict, View, judge_for, judge_parts_for,
     judge_with_run_for,
 };
 use std::alloc::{AllocError, Global};
@@ -33,12 +33,11 @@ fn begun<R: Read + Drop>(alloc: Global, reader: R) -> Result<Verdict, JudgeError
 fn begun_in_parts<R: Read + Drop>(alloc: Global, reader: R) -> Result<Totals, JudgeError> {
     let profile = Profile::of(Hands::None);
     let mut writer = Narrow::roomy(alloc);
-    let telling = Telling::Shown(View::Verdict);
     judge_parts_for(
         alloc,
         reader,
         &mut writer,
-        telling,
+        View::Verdict,
         Beginning::FirstCommand,
         &profile,
     )

@@ -2,12 +2,12 @@
 
 use crate::tests::same;
 use crate::tests::writers::{Narrow, took, took_to_the_end};
-use deck9::Hands;
-use judge9::{Detail, JudgeError, Verdict};
-use program9::{Buffered, judge_and_flush};
+use deck9::{Hands, Profile};
+use program9::{Buffered, Job, Message, Outcome, judge_and_flush};
+use report9::{Beginning, Detail, View};
 use std::alloc::{AllocError, Global};
 use std::io::Write;
-use words9::Verb;
+use words9::{Asked, Report};
 
 /// PLAY and its acknowledgement.
 const PLAY: &str =
@@ -16,31 +16,48 @@ const PLAY: &str =
 /// What is answered to it.
 const YES: &str = "yes: records 6, exchanges 1, open 0\n";
 
-/// The answer of a judging with this verb, with no hands, before this writer; and the writer after it.
-fn judged(
-    alloc: Global,
-    text: &str,
-    verb: Verb,
-    writer: Narrow,
-) -> Option<(Result<Verdict, JudgeError>, Narrow)> {
+/// What `check`, `explain` and `run` ask for.
+const CHECK: Report = Report::ToBreak(View::Verdict);
+
+const EXPLAIN: Report = Report::ToBreak(View::Explain(Detail::Names));
+
+const RUN: Report = Report::Run;
+
+/// The end of a judging with this report, with no hands, before this writer; and the writer after it.
+fn judged(alloc: Global, text: &str, report: Report, writer: Narrow) -> Option<(Outcome, Narrow)> {
     let mut out = Buffered::new(alloc, writer, false).ok()?;
-    let answer = judge_and_flush(
-        alloc,
-        text.as_bytes(),
-        &mut out,
-        verb,
-        Detail::Names,
-        Hands::None,
-    );
-    Some((answer, out.into_writer()))
+    let asked = Asked {
+        report,
+        beginning: Beginning::FirstRecord,
+        line_buffered: false,
+    };
+    let profile = Profile::of(Hands::None);
+    let end = judge_and_flush(alloc, text.as_bytes(), &mut out, &Job { asked, profile });
+    Some((end, out.into_writer()))
+}
+
+/// The end of a yes.
+fn yes() -> Outcome {
+    Outcome {
+        status: 0,
+        message: Message::Nothing,
+    }
+}
+
+/// The end where the writer failed.
+fn write_fault() -> Outcome {
+    Outcome {
+        status: 4,
+        message: Message::WriteFault,
+    }
 }
 
 #[test]
 fn the_report_is_handed_on(rt: HostRuntime) {
     let writer = Narrow::new(rt.alloc(), usize::MAX);
-    let found = judged(rt.alloc(), PLAY, Verb::Check, writer);
-    let (answer, writer) = found.expect(&rt, "memory");
-    same(&rt, answer.is_ok(), true, YES);
+    let found = judged(rt.alloc(), PLAY, CHECK, writer);
+    let (end, writer) = found.expect(&rt, "memory");
+    same(&rt, end, yes(), YES);
     took(&rt, &writer, YES.as_bytes(), 0, 1);
 }
 
@@ -48,9 +65,9 @@ fn the_report_is_handed_on(rt: HostRuntime) {
 fn a_write_that_fails_is_a_write_fault(rt: HostRuntime) {
     for room in 0..YES.len() {
         let writer = Narrow::new(rt.alloc(), room);
-        let found = judged(rt.alloc(), PLAY, Verb::Check, writer);
-        let (answer, writer) = found.expect(&rt, "memory");
-        same(&rt, answer.err(), Some(JudgeError::Write), room);
+        let found = judged(rt.alloc(), PLAY, CHECK, writer);
+        let (end, writer) = found.expect(&rt, "memory");
+        same(&rt, end, write_fault(), room);
         took(&rt, &writer, &YES.as_bytes()[..room], 1, 0);
     }
 }
@@ -58,41 +75,31 @@ fn a_write_that_fails_is_a_write_fault(rt: HostRuntime) {
 #[test]
 fn a_run_is_handed_on_or_a_first_part_of_it(rt: HostRuntime) {
     let writer = Narrow::new(rt.alloc(), usize::MAX);
-    let (answer, writer) = judged(rt.alloc(), PLAY, Verb::Run, writer).expect(&rt, "memory");
-    let yes = Verdict::Yes {
-        records: 6,
-        exchanges: 1,
-        tail: 0,
-    };
-    same(&rt, answer.ok(), Some(yes), YES);
+    let (end, writer) = judged(rt.alloc(), PLAY, RUN, writer).expect(&rt, "memory");
+    same(&rt, end, yes(), YES);
     took_to_the_end(&rt, &writer, YES.as_bytes());
     let whole = writer.taken.as_slice();
     same(&rt, whole.starts_with(b"record 6: goal "), true, whole);
     for room in 0..whole.len() {
         let writer = Narrow::new(rt.alloc(), room);
-        let (answer, writer) = judged(rt.alloc(), PLAY, Verb::Run, writer).expect(&rt, "memory");
-        same(&rt, answer.err(), Some(JudgeError::Write), room);
+        let (end, writer) = judged(rt.alloc(), PLAY, RUN, writer).expect(&rt, "memory");
+        same(&rt, end, write_fault(), room);
         took(&rt, &writer, &whole[..room], 1, 0);
     }
 }
 
 #[test]
 fn a_flush_that_fails_is_a_write_fault(rt: HostRuntime) {
-    for view in [Verb::Check, Verb::Explain] {
+    for report in [CHECK, EXPLAIN] {
         let writer = Narrow::that_fails_to_flush(rt.alloc());
-        let found = judged(rt.alloc(), PLAY, view, writer);
-        let (answer, writer) = found.expect(&rt, "memory");
-        same(&rt, answer.err(), Some(JudgeError::Write), "no flush");
+        let found = judged(rt.alloc(), PLAY, report, writer);
+        let (end, writer) = found.expect(&rt, "memory");
+        same(&rt, end, write_fault(), "no flush");
         took_to_the_end(&rt, &writer, YES.as_bytes());
     }
     let writer = Narrow::that_fails_to_flush(rt.alloc());
-    let (answer, writer) = judged(rt.alloc(), PLAY, Verb::Run, writer).expect(&rt, "memory");
-    same(
-        &rt,
-        answer.err(),
-        Some(JudgeError::Write),
-        "no flush of a run",
-    );
+    let (end, writer) = judged(rt.alloc(), PLAY, RUN, writer).expect(&rt, "memory");
+    same(&rt, end, write_fault(), "no flush of a run");
     took_to_the_end(&rt, &writer, YES.as_bytes());
 }
 
@@ -111,17 +118,17 @@ fn many_exchanges(alloc: Global) -> Result<String, AllocError> {
 fn nothing_is_written_after_a_write_that_failed(rt: HostRuntime) {
     let text = many_exchanges(rt.alloc()).expect(&rt, "memory");
     let writer = Narrow::new(rt.alloc(), usize::MAX);
-    let found = judged(rt.alloc(), text.as_str(), Verb::Explain, writer);
-    let (answer, writer) = found.expect(&rt, "memory");
+    let found = judged(rt.alloc(), text.as_str(), EXPLAIN, writer);
+    let (end, writer) = found.expect(&rt, "memory");
     let whole = writer.taken.as_slice();
-    same(&rt, answer.is_ok(), true, "the whole");
+    same(&rt, end, yes(), "the whole");
     // The cuts below stand inside it.
     assert!(rt; whole.len() > 20_000);
     for room in [0, 1, 8191, 8192, 8193, 16_384, 20_000] {
         let writer = Narrow::new(rt.alloc(), room);
-        let found = judged(rt.alloc(), text.as_str(), Verb::Explain, writer);
-        let (answer, writer) = found.expect(&rt, "memory");
-        same(&rt, answer.err(), Some(JudgeError::Write), room);
+        let found = judged(rt.alloc(), text.as_str(), EXPLAIN, writer);
+        let (end, writer) = found.expect(&rt, "memory");
+        same(&rt, end, write_fault(), room);
         took(&rt, &writer, &whole[..room], 1, 0);
     }
 }
@@ -153,4 +160,62 @@ fn a_dropped_buffer_writes_nothing(rt: HostRuntime) {
     };
     same(&rt, is_held, true, "held");
     took(&rt, &writer, b"", 0, 0);
+}
+
+/// What was written to a line-buffered writer; what it handed on by itself, and how often it flushed.
+const LINES: &[(&'static str, &'static str, usize)] = &[
+    ("", "", 0),
+    ("no", "", 0),
+    ("no\n", "no\n", 1),
+    ("no\nat", "no\n", 1),
+    ("no\nat\n", "no\nat\n", 2),
+    ("\n", "\n", 1),
+    ("\n\n", "\n\n", 2),
+    ("\nno", "\n", 1),
+    ("a\nb\nc\nd", "a\nb\nc\n", 3),
+];
+
+/// What a buffer handed on of this text, before it was flushed or after.
+fn handed_on(alloc: Global, text: &[u8], line_buffered: bool, flushed: bool) -> Narrow {
+    let mut writer = Narrow::new(alloc, usize::MAX);
+    if let Ok(mut out) = Buffered::new(alloc, &mut writer, line_buffered) {
+        let _ = out.write_all(text);
+        if flushed {
+            let _ = out.flush();
+        }
+    }
+    writer
+}
+
+#[test]
+fn each_line_is_handed_on_and_flushed_once(rt: HostRuntime) {
+    for (text, lines, flushes) in LINES {
+        let (text, lines) = (text.as_bytes(), lines.as_bytes());
+        // The writer takes a byte a call, so there is a write for each byte that is handed on.
+        let writer = handed_on(rt.alloc(), text, true, false);
+        took(&rt, &writer, lines, 0, *flushes);
+        same(&rt, writer.writes, lines.len(), text);
+        // The flush at the end is one more.
+        let writer = handed_on(rt.alloc(), text, true, true);
+        took(&rt, &writer, text, 0, *flushes + 1);
+        same(&rt, writer.writes, text.len(), text);
+        // Not line-buffered, it hands on nothing before.
+        let writer = handed_on(rt.alloc(), text, false, false);
+        took(&rt, &writer, b"", 0, 0);
+        same(&rt, writer.writes, 0, text);
+        let writer = handed_on(rt.alloc(), text, false, true);
+        took(&rt, &writer, text, 0, 1);
+    }
+}
+
+#[test]
+fn a_line_longer_than_the_buffer_is_flushed_once(rt: HostRuntime) {
+    let mut text = Vec::new(rt.alloc());
+    text.resize(8999, b'-').expect(&rt, "memory");
+    // What does not fit is handed on without a flush.
+    let writer = handed_on(rt.alloc(), text.as_slice(), true, false);
+    same(&rt, (writer.taken.len(), writer.flushes), (8192, 0), "full");
+    text.push(b'\n').expect(&rt, "memory");
+    let writer = handed_on(rt.alloc(), text.as_slice(), true, false);
+    took(&rt, &writer, text.as_slice(), 0, 1);
 }

@@ -2,8 +2,8 @@
 
 use crate::tests::same;
 use capture9::{CaptureError, CaptureKind};
-use judge9::{JudgeError, Totals};
 use program9::{Message, Unopened, WhyUnopened, outcome, outcome_in_parts};
+use report9::{JudgeError, Totals};
 use std::alloc::{AllocError, Global};
 
 /// A reader, a writer and memory that fail; tests/program.sh has the rows that can't be read.

@@ -162,6 +162,40 @@ fn the_whole_capture_is_judged(rt: HostRuntime) {
     took_to_the_end(&rt, &writer, ONE_BREAK.as_bytes());
 }
 
+/// Words, their last line, and how often the writer is flushed: once a line, and once at the end.
+const LINE_BY_LINE: &[(&'static [&'static str], &'static str, usize)] = &[
+    (&["check"], YES, 1),
+    (&["check", "--line-buffered"], YES, 2),
+    (&["explain"], YES, 1),
+    (&["explain", "--line-buffered"], YES, 3),
+    (&["explain", "--bytes", "--line-buffered"], YES, 3),
+    (&["run"], YES, 1),
+    (&["why", "--line-buffered"], YES, 2),
+    (&["check", "--all"], NO_BREAK, 1),
+    (&["check", "--all", "--line-buffered"], NO_BREAK, 2),
+    (&["explain", "--all", "--line-buffered"], NO_BREAK, 3),
+    (&["why", "--all", "--line-buffered"], NO_BREAK, 2),
+    (
+        &["check", "--all", "--line-buffered", "twice.csv"],
+        ONE_BREAK,
+        3,
+    ),
+    (
+        &["explain", "--line-buffered", "--all", "twice.csv"],
+        ONE_BREAK,
+        4,
+    ),
+];
+
+#[test]
+fn each_line_is_flushed_where_the_words_say_so(rt: HostRuntime) {
+    for (words, end_of_report, flushes) in LINE_BY_LINE {
+        let (_, writer) = end_on(&rt, *words, Narrow::new(rt.alloc(), usize::MAX));
+        let ended = writer.taken.ends_with(end_of_report.as_bytes());
+        same(&rt, (ended, writer.flushes), (true, *flushes), *words);
+    }
+}
+
 #[test]
 fn a_writer_that_fails(rt: HostRuntime) {
     let asked: [(&[&str], &str); 6] = [

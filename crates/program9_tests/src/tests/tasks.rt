@@ -2,9 +2,17 @@
 
 use crate::tests::same;
 use deck9::Hands;
+use report9::{Beginning, Detail, View};
 use std::alloc::{AllocError, Global};
 use tc25::Rate;
-use words9::{Task, Verb, WordsFault, read_words};
+use words9::{Asked, Report, Task, WordsFault, read_words};
+
+/// What the verdict alone asks for, each exchange with its names, and why.
+const VERDICT: View = View::Verdict;
+
+const NAMES: View = View::Explain(Detail::Names);
+
+const BYTES: View = View::Explain(Detail::Bytes);
 
 /// The task of these words.
 fn task_of(alloc: Global, words: &[&str]) -> Result<Task, WordsFault> {
@@ -29,10 +37,9 @@ fn asks(alloc: Global, words: &[&str], wanted: &Wanted) -> bool {
     };
     is_named(&task.file, wanted.file)
         && is_named(&task.deck, wanted.deck)
-        && task.verb == wanted.verb
+        && task.asked.report == wanted.report
         && task.rate == Rate::Fps25
         && task.hands == wanted.hands
-        && task.all == wanted.all
 }
 
 /// Whether this is the name that is wanted, or none.
@@ -54,11 +61,10 @@ fn are_refused(alloc: Global, words: &[&str]) -> bool {
 
 /// The task that words ask for.
 struct Wanted {
-    verb: Verb,
+    report: Report,
     file: Option<&'static str>,
     hands: Hands,
     deck: Option<&'static str>,
-    all: bool,
 }
 
 /// tests/cases/words.txt has others. Here a file has a blank in its name, has an option's name beside the option, or has none.
@@ -66,81 +72,73 @@ const COMMANDS: &[(&'static [&'static str], Wanted)] = &[
     (
         &["check", "--deck", "edit.toml", "a.csv"],
         Wanted {
-            verb: Verb::Check,
+            report: Report::ToBreak(VERDICT),
             file: Some("a.csv"),
             hands: Hands::None,
             deck: Some("edit.toml"),
-            all: false,
         },
     ),
     (
         &["run", "a.csv", "--hands", "--deck=--hands"],
         Wanted {
-            verb: Verb::Run,
+            report: Report::Run,
             file: Some("a.csv"),
             hands: Hands::Allowed,
             deck: Some("--hands"),
-            all: false,
         },
     ),
     (
         &["why", "--", "--deck"],
         Wanted {
-            verb: Verb::Why,
+            report: Report::ToBreak(View::Why),
             file: Some("--deck"),
             hands: Hands::None,
             deck: None,
-            all: false,
         },
     ),
     (
         &["explain", "a b", "--hands"],
         Wanted {
-            verb: Verb::Explain,
+            report: Report::ToBreak(NAMES),
             file: Some("a b"),
             hands: Hands::Allowed,
             deck: None,
-            all: false,
         },
     ),
     (
         &["check", "--hands", "--", "--hands"],
         Wanted {
-            verb: Verb::Check,
+            report: Report::ToBreak(VERDICT),
             file: Some("--hands"),
             hands: Hands::Allowed,
             deck: None,
-            all: false,
         },
     ),
     (
         &["check", ""],
         Wanted {
-            verb: Verb::Check,
+            report: Report::ToBreak(VERDICT),
             file: Some(""),
             hands: Hands::None,
             deck: None,
-            all: false,
         },
     ),
     (
         &["why", "--all", "--", "--all"],
         Wanted {
-            verb: Verb::Why,
+            report: Report::Parts(View::Why),
             file: Some("--all"),
             hands: Hands::None,
             deck: None,
-            all: true,
         },
     ),
     (
         &["explain", "--all", "--hands"],
         Wanted {
-            verb: Verb::Explain,
+            report: Report::Parts(NAMES),
             file: None,
             hands: Hands::Allowed,
             deck: None,
-            all: true,
         },
     ),
 ];
@@ -149,6 +147,71 @@ const COMMANDS: &[(&'static [&'static str], Wanted)] = &[
 fn words_that_are_a_command(rt: HostRuntime) {
     for (words, wanted) in COMMANDS {
         same(&rt, asks(rt.alloc(), *words, wanted), true, *words);
+    }
+}
+
+/// Words, what they ask for, from which record on, and whether line by line. tests/cases/ has what comes of them.
+const ASKED: &[(&'static [&'static str], Report, bool, bool)] = &[
+    (&["check"], Report::ToBreak(VERDICT), false, false),
+    (&["check", "--all"], Report::Parts(VERDICT), false, false),
+    (&["check", "--sync"], Report::ToBreak(VERDICT), true, false),
+    (
+        &["check", "--line-buffered"],
+        Report::ToBreak(VERDICT),
+        false,
+        true,
+    ),
+    (
+        &["check", "--line-buffered", "--all"],
+        Report::Parts(VERDICT),
+        false,
+        true,
+    ),
+    (&["explain", "a.csv"], Report::ToBreak(NAMES), false, false),
+    (
+        &["explain", "--bytes"],
+        Report::ToBreak(BYTES),
+        false,
+        false,
+    ),
+    (
+        &["explain", "--all", "--line-buffered", "--sync"],
+        Report::Parts(NAMES),
+        true,
+        true,
+    ),
+    (
+        &["explain", "--line-buffered", "--bytes", "--all"],
+        Report::Parts(BYTES),
+        false,
+        true,
+    ),
+    (&["run"], Report::Run, false, false),
+    (&["run", "--sync"], Report::Run, true, false),
+    (&["why"], Report::ToBreak(View::Why), false, false),
+    (
+        &["why", "--all", "--line-buffered"],
+        Report::Parts(View::Why),
+        false,
+        true,
+    ),
+];
+
+#[test]
+fn what_words_ask_for(rt: HostRuntime) {
+    for (words, report, sync, line_buffered) in ASKED {
+        let task = task_of(rt.alloc(), *words).expect(&rt, "a task");
+        let beginning = if *sync {
+            Beginning::FirstCommand
+        } else {
+            Beginning::FirstRecord
+        };
+        let asked = Asked {
+            report: *report,
+            beginning,
+            line_buffered: *line_buffered,
+        };
+        same(&rt, task.asked, asked, *words);
     }
 }
 
@@ -186,6 +249,8 @@ const REFUSED: &[&'static [&'static str]] = &[
     &[""],
     &["help", "--version"],
     &["run", "--all"],
+    &["run", "--line-buffered"],
+    &["check", "--bytes"],
     &["check", "--rate", "29.97"],
     &["check", "--rate", "29.97DF"],
     &["explain", "--rate", ""],

@@ -6,12 +6,13 @@ use std::io::{self, Write};
 use std::process::Abort;
 
 /// Takes a byte a call until its room is taken, and fails then. Its flush fails where it is told so. It counts the
-/// writes that failed, and the flushes.
+/// writes, those that failed, and the flushes.
 #[derive(Drop)]
 pub(super) struct Narrow {
     pub taken: Vec<u8>,
     room: usize,
     can_flush: bool,
+    pub writes: usize,
     pub failures: usize,
     pub flushes: usize,
 }
@@ -23,6 +24,7 @@ impl Narrow {
             taken: Vec::new(alloc),
             room,
             can_flush: true,
+            writes: 0,
             failures: 0,
             flushes: 0,
         }
@@ -34,6 +36,7 @@ impl Narrow {
             taken: Vec::new(alloc),
             room: usize::MAX,
             can_flush: false,
+            writes: 0,
             failures: 0,
             flushes: 0,
         }
@@ -42,6 +45,7 @@ impl Narrow {
 
 impl Write for Narrow {
     fn write(&mut self, bytes: &[u8]) -> io::Result<usize> {
+        self.writes = self.writes.saturating_add(1);
         if self.taken.len() >= self.room {
             self.failures = self.failures.saturating_add(1);
             return Err(io::Error::from(io::ErrorKind::Interrupted));

@@ -1,29 +1,31 @@
 //! The lines of a record that breaks a rule of blocks, pairing or timing, and of the records that are open before it or the
 //! exchange before it.
-ghost use Rattle.std.specs.Prelude.{◌≡◌, ◌+◌, ◌-◌, ◌≤◌, ◌<◌, ◌^◌, ◌++◌, ◌∷◌, [], OnOk, codes, length};
+ghost use Rattle.std.specs.Prelude.{◌≡◌, ◌<◌, ◌^◌, ◌++◌, [], OnOk, codes};
 ghost use Rattle.block9.specs.Line.{bytes_of};
-ghost use Rattle.capture9.specs.declared.line_byte.Wire.TheVariants.{Controller, Deck};
-ghost use Rattle.text9.specs.Bytes.{hex_bytes};
-ghost use Rattle.report9.specs.WhyText.{end_before, letter_of, limit_told, line_if_ended, line_of_breaking, line_of_open, lines_of_break, lines_of_open, progress_told, since_told, sum_told, wanted_of_command, words_if_whole, would_end};
+ghost use Rattle.report9.specs.Bytes.{hex_bytes};
+ghost use Rattle.report9.specs.WhyText.{came_on, end_before, lead_of, letter_of, limit_told, line_if_ended, line_of_breaking, line_of_open, lines_of_break};
+ghost use Rattle.report9.specs.WhyText.{lines_of_open, progress_told, since_told, sum_told, wanted_on, would_end};
 
-use crate::why_text::exchange_line::put_before;
-use block9::{Command, Open, Reason};
+use crate::exchange_bytes::{
+    put_command_sent, put_exchange_records, put_records, put_reply_sent, put_words,
+};
+use crate::pieces::{put_count, put_hex, put_text, put_word};
+use crate::why_no::{EndedExchange, WhyNo};
+use block9::{Open, Reason};
 use capture9::{LineByte, Wire};
 use deck9::Profile;
 use std::alloc::AllocError;
-use text9::{put_count, put_hex, put_next, put_records, put_text, put_word, put_words};
-use verdict9::{EndedExchange, WhyVerdict};
 
 /// Puts the line of the exchange before, where none is open, or that of the open command and that of its reply, each where it
 /// has records; and that of the record that breaks. Puts nothing for another verdict than a break.
 pub(super) fn put_break(
     line: &mut Vec<u8>,
     profile: &Profile,
-    verdict: &WhyVerdict,
+    verdict: &WhyNo,
 ) -> Result<(), AllocError>
     ensures { OnOk result (line.new.items ≡ line.old.items ++ lines_of_break profile.now verdict.now) }
 {
-    let WhyVerdict::Break {
+    let WhyNo::Break {
         at,
         reason,
         tail,
@@ -41,7 +43,7 @@ pub(super) fn put_break(
     put_breaking(line, *at, *reason, *breaking, end_us, so_far.sum)
 }
 
-/// Puts the line of the exchange before, where there is one. Its last record has this number.
+/// Puts the line of the exchange before, where there is one, without what status data say. `at` is the number of its last record.
 fn put_if_ended(
     line: &mut Vec<u8>,
     profile: &Profile,
@@ -50,13 +52,16 @@ fn put_if_ended(
 ) -> Result<(), AllocError>
     ensures { OnOk result (line.new.items ≡ line.old.items ++ line_if_ended profile.now at before.now) }
 {
-    match before {
-        Some(ended) => put_before(line, profile, at, &ended.exchange),
-        None => Ok(()),
-    }
+    let Some(ended) = before else {
+        return Ok(());
+    };
+    put_exchange_records(line, at, &ended.exchange)?;
+    put_command_sent(line, ": ", profile, &ended.exchange)?;
+    put_reply_sent(line, " -> ", profile, &ended.exchange)?;
+    put_text(line, "\n")
 }
 
-/// Puts the line of the open command and that of its reply, each where it has records. So many records come before them.
+/// Puts the line of the open command and that of its reply, each where it has records. `count` records come before them.
 fn put_open(
     line: &mut Vec<u8>,
     profile: &Profile,
@@ -65,75 +70,64 @@ fn put_open(
     so_far: &Open,
     breaking: Wire,
 ) -> Result<(), AllocError>
-    requires { count ≤ 2 ^ 99 }
+    requires { count < 2 ^ 32 }
     ensures { OnOk result (line.new.items ≡ line.old.items ++ lines_of_open profile.now count tail.now so_far.now breaking) }
 {
     let came = so_far.asked;
     let (asked, answered) = tail.split_at(came.min(tail.len()));
-    put_open_command(line, profile, count, asked, so_far, breaking)?;
-    put_open_reply(line, count + came as u128, answered, so_far, breaking)
+    let after = count + came as u128;
+    put_open_block(
+        line,
+        profile,
+        count,
+        asked,
+        so_far,
+        Wire::Controller,
+        breaking,
+    )?;
+    put_open_block(line, profile, after, answered, so_far, Wire::Deck, breaking)
 }
 
-/// Puts the line of a command's records: its name and time where it is complete, its bytes, and how far it has come. So many
-/// records come before them.
-fn put_open_command(
+/// Puts the line of a block's records, where it has some: the command's words or the arrow of a reply, the bytes, and how far
+/// the block has come. `count` records come before them. The block is on `wire`, and the record that breaks on `breaking`.
+fn put_open_block(
     line: &mut Vec<u8>,
     profile: &Profile,
     count: u128,
-    asked: &[LineByte],
+    records: &[LineByte],
     so_far: &Open,
+    wire: Wire,
     breaking: Wire,
 ) -> Result<(), AllocError>
-    requires { count ≤ 2 ^ 100 }
-    ensures { OnOk result (line.new.items ≡ line.old.items
-        ++ line_of_open count (words_if_whole profile.now so_far.now.command) (progress_told Controller breaking so_far.now.asked (wanted_of_command so_far.now)) asked.now) }
+    requires { count < 2 ^ 65 }
+    ensures { OnOk result (line.new.items ≡ line.old.items ++ line_of_open profile.now count so_far.now wire breaking records.now) }
 {
-    let Some((first, rest)) = asked.split_first() else {
+    let Some(first) = records.first() else {
         return Ok(());
     };
-    let wanted = wanted_of_command(so_far);
-    put_records(line, count + 1, count + asked.len() as u128, first.time_us)?;
-    put_words_if_whole(line, profile, ": ", &so_far.command)?;
-    put_bytes(line, *first, rest)?;
-    put_progress(line, Wire::Controller, breaking, so_far.asked, wanted)?;
+    let last = count + records.len() as u128;
+    put_records(line, count + 1, last, first.time_us)?;
+    put_lead(line, profile, wire, so_far)?;
+    put_bytes(line, records)?;
+    put_progress(line, wire, breaking, so_far)?;
     put_text(line, "\n")
 }
 
-/// How many records the command has, where it is not complete.
-fn wanted_of_command(so_far: &Open) -> usize
-    ensures { result ≡ wanted_of_command so_far.now }
-{
-    match so_far.command {
-        None => so_far.wanted,
-        Some(_) => 0,
-    }
-}
-
-/// Puts the line of a reply's records: its bytes, and how far it has come. So many records come before them.
-fn put_open_reply(
+/// Puts what comes before the bytes of a block: a command's name and time, where it is complete, or the arrow of a reply.
+fn put_lead(
     line: &mut Vec<u8>,
-    count: u128,
-    answered: &[LineByte],
+    profile: &Profile,
+    wire: Wire,
     so_far: &Open,
-    breaking: Wire,
 ) -> Result<(), AllocError>
-    requires { count ≤ 2 ^ 100 }
-    ensures { OnOk result (line.new.items ≡ line.old.items
-        ++ line_of_open count (codes "-> ") (progress_told Deck breaking so_far.now.answered so_far.now.wanted) answered.now) }
+    ensures { OnOk result (line.new.items ≡ line.old.items ++ (codes ": " ++ lead_of profile.now so_far.now wire)) }
 {
-    let Some((first, rest)) = answered.split_first() else {
-        return Ok(());
-    };
-    put_records(
-        line,
-        count + 1,
-        count + answered.len() as u128,
-        first.time_us,
-    )?;
-    put_word(line, ": ", "-> ")?;
-    put_bytes(line, *first, rest)?;
-    put_progress(line, Wire::Deck, breaking, so_far.answered, so_far.wanted)?;
-    put_text(line, "\n")
+    put_text(line, ": ")?;
+    match (wire, &so_far.command) {
+        (Wire::Controller, Some(command)) => put_words(line, profile, command),
+        (Wire::Controller, None) => Ok(()),
+        (Wire::Deck, _) => put_text(line, "-> "),
+    }
 }
 
 /// Puts how many bytes of a block came on a wire, and how many it wants, where more are missing than the one that breaks.
@@ -141,17 +135,29 @@ fn put_progress(
     line: &mut Vec<u8>,
     wire: Wire,
     breaking: Wire,
-    came: usize,
-    wanted: usize,
+    so_far: &Open,
 ) -> Result<(), AllocError>
-    ensures { OnOk result (line.new.items ≡ line.old.items ++ progress_told wire breaking came wanted) }
+    ensures { OnOk result (line.new.items ≡ line.old.items ++ progress_told wire breaking (came_on so_far.now wire) (wanted_on so_far.now wire)) }
 {
+    let (came, wanted) = progress_on(wire, so_far);
     if came >= wanted || would_end(wire, breaking, came, wanted) {
         return Ok(());
     }
     put_count(line, ", ", came as u64)?;
     put_count(line, " of ", wanted as u64)?;
     put_text(line, " bytes")
+}
+
+/// How many bytes of a block came on a wire, and how many it wants: a command that is complete wants none.
+fn progress_on(wire: Wire, so_far: &Open) -> (usize, usize)
+    ensures came { result.0 ≡ came_on so_far.now wire }
+    ensures wanted { result.1 ≡ wanted_on so_far.now wire }
+{
+    match (wire, &so_far.command) {
+        (Wire::Controller, None) => (so_far.asked, so_far.wanted),
+        (Wire::Controller, Some(_)) => (so_far.asked, 0),
+        (Wire::Deck, _) => (so_far.answered, so_far.wanted),
+    }
 }
 
 /// Whether the record that breaks would end a block on this wire.
@@ -165,36 +171,15 @@ fn would_end(wire: Wire, breaking: Wire, came: usize, wanted: usize) -> bool
     }
 }
 
-/// Puts a label, and a command's name and time, where it is complete.
-fn put_words_if_whole(
-    line: &mut Vec<u8>,
-    profile: &Profile,
-    label: &str,
-    command: &Option<Command>,
-) -> Result<(), AllocError>
-    ensures { OnOk result (line.new.items ≡ line.old.items ++ (label.now ++ words_if_whole profile.now command.now)) }
+/// Puts the bytes of records, with a space between two.
+fn put_bytes(line: &mut Vec<u8>, records: &[LineByte]) -> Result<(), AllocError>
+    ensures { OnOk result (line.new.items ≡ line.old.items ++ hex_bytes [] (bytes_of records.now)) }
 {
-    put_text(line, label)?;
-    match command {
-        Some(command) => put_words(line, profile, command),
-        None => Ok(()),
-    }
-}
-
-/// Puts the bytes of records.
-fn put_bytes(line: &mut Vec<u8>, first: LineByte, rest: &[LineByte]) -> Result<(), AllocError>
-    ensures { OnOk result (line.new.items ≡ line.old.items ++ hex_bytes [] (bytes_of (first ∷ rest.now))) }
-{
-    put_hex(line, u32::from(first.byte))?;
-    put_more(line, rest)
-}
-
-/// Puts bytes, with a space before each.
-fn put_more(line: &mut Vec<u8>, records: &[LineByte]) -> Result<(), AllocError>
-    ensures { OnOk result (line.new.items ≡ line.old.items ++ hex_bytes (codes " ") (bytes_of records.now)) }
-{
+    let mut before = "";
     for record in records {
-        put_next(line, u32::from(record.byte))?;
+        put_text(line, before)?;
+        put_hex(line, u32::from(record.byte))?;
+        before = " ";
     }
     Ok(())
 }

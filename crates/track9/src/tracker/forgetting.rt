@@ -1,9 +1,11 @@
 //! What is forgotten, and complete exchanges with what is forgotten besides.
-ghost use Rattle.std.specs.Prelude.{◌≡◌, ◌↔◌, IfErr, IfNone, IfOk, IfSome, IsTrue, OnErr, OnOk, false};
+ghost use Rattle.std.specs.Prelude.{◌≡◌, ◌↔◌, IfErr, IfNone, IfOk, IfSome, IsOk, IsTrue, OnErr, OnOk, false};
 ghost use Rattle.block9.specs.Block.{head_of};
 ghost use Rattle.deck9.specs.Contradict.{MayGo};
 ghost use Rattle.deck9.specs.Deck.{forgotten_beside};
+ghost use Rattle.deck9.specs.Effect.{effect_of};
 ghost use Rattle.deck9.specs.Step.{AreReached, Forgets, Goes, forgotten_with};
+ghost use Rattle.track9.specs.Frugal.{is_frugal, is_frugal_effect};
 ghost use Rattle.track9.specs.Presets.{presets_after, with_command};
 ghost use Rattle.track9.specs.Tracker.{Possible};
 ghost use Rattle.track9.specs.Working.States.{IsReached};
@@ -11,7 +13,7 @@ ghost use Rattle.deck9.specs.declared.state.State.{State as AState};
 
 use crate::tracker::Tracker;
 use block9::Exchange;
-use deck9::{Forgotten, State};
+use deck9::{Forgotten, Hands, State};
 use sets25::TimeSet;
 use std::alloc::AllocError;
 use std::mem::replace;
@@ -39,7 +41,9 @@ impl<'a, S: TimeSet> Tracker<'a, S> {
     /// The states are then exactly those to which the exchange leads from a state before. It answers true where there is such a
     /// state, and false where there is none.
     ///
-    /// An error comes where memory is refused, and the tracker is then as it was.
+    /// An error comes where memory is refused, and the tracker is then as it was. Where hands are not allowed and the deck forgets
+    /// nothing besides, none comes for a NAK, nor for a command that asks for no register's time and changes and forgets no
+    /// register.
     #[inline(always)] // each exchange of a capture comes here
     pub fn take(&mut self, exchange: &Exchange) -> Result<bool, AllocError>
         ensures reached { IfOk result (λ b. AreReached (Possible self.old.states) (Goes self.old.profile exchange.now) (Possible self.new.states)) }
@@ -47,6 +51,8 @@ impl<'a, S: TimeSet> Tracker<'a, S> {
         ensures profile { IfOk result (λ b. self.new.profile ≡ self.old.profile) }
         ensures presets { IfOk result (λ b. self.new.presets ≡ presets_after exchange.now.command exchange.now.reply b self.old.presets) }
         ensures unchanged { IfErr result (λ e. self.new ≡ self.old) }
+        ensures frugal { self.old.profile.hands ≡ Hands.None → IsTrue (is_frugal self.old.profile.deck exchange.now.command exchange.now.reply)
+            → forgotten_with self.old.profile.deck exchange.now ≡ Forgotten.Nothing → IsOk result }
     {
         match self.deck.forgotten_with(exchange) {
             Forgotten::Nothing => self.observe(&exchange.command, &exchange.reply),
@@ -99,20 +105,46 @@ impl<'a, S: TimeSet> Tracker<'a, S> {
     ///
     /// The states are then exactly those to which the exchange may lead from a state before. So there is one where there was one.
     ///
-    /// An error comes where memory is refused. The tracker may then have taken the command alone.
+    /// An error comes where memory is refused, and the tracker is then as it was. Where hands are not allowed and the deck forgets
+    /// nothing besides, none comes for a command that changes and forgets no register.
     pub fn take_unknown(&mut self, exchange: &Exchange) -> Result<(), AllocError>
         ensures reached { OnOk result (AreReached (Possible self.old.states) (MayGo self.old.profile false exchange.now) (Possible self.new.states)) }
         ensures remains { OnOk result (((s : AState) × Possible self.old.states s) ↔ ((s : AState) × Possible self.new.states s)) }
         ensures profile { OnOk result (self.new.profile ≡ self.old.profile) }
         ensures presets { OnOk result (self.new.presets ≡ with_command exchange.now.command self.old.presets) }
+        ensures unchanged { OnErr result (self.new ≡ self.old) }
+        ensures frugal { self.old.profile.hands ≡ Hands.None → IsTrue (is_frugal_effect (effect_of self.old.profile.deck exchange.now.command))
+            → forgotten_beside self.old.profile.deck exchange.now.command (head_of exchange.now.block) ≡ Forgotten.Nothing → IsOk result }
     {
         match self.deck.forgotten_beside(exchange) {
             Forgotten::Nothing => self.pass(&exchange.command),
-            forgotten => self.pass_and_forget(exchange, forgotten),
+            forgotten => self.pass_aside(exchange, forgotten),
         }
     }
 
-    /// The same where this is forgotten besides.
+    /// The same where something is forgotten besides: aside, so that nothing has changed where memory is refused.
+    fn pass_aside(&mut self, exchange: &Exchange, forgotten: Forgotten) -> Result<(), AllocError>
+        requires { forgotten ≡ forgotten_beside self.old.profile.deck exchange.now.command (head_of exchange.now.block) }
+        ensures reached { OnOk result (AreReached (Possible self.old.states) (MayGo self.old.profile false exchange.now) (Possible self.new.states)) }
+        ensures remains { OnOk result (((s : AState) × Possible self.old.states s) ↔ ((s : AState) × Possible self.new.states s)) }
+        ensures profile { OnOk result (self.new.profile ≡ self.old.profile) }
+        ensures presets { OnOk result (self.new.presets ≡ with_command exchange.now.command self.old.presets) }
+        ensures unchanged { OnErr result (self.new ≡ self.old) }
+    {
+        let mut next = self.snapshot()?;
+        match next.pass_and_forget(exchange, forgotten) {
+            Ok(()) => {
+                drop(replace(self, next));
+                Ok(())
+            }
+            Err(error) => {
+                drop(next);
+                Err(error)
+            }
+        }
+    }
+
+    /// Takes a command without its reply, and then forgets this besides. Where memory is refused it may have taken the command alone.
     fn pass_and_forget(
         &mut self,
         exchange: &Exchange,
@@ -132,7 +164,7 @@ impl<'a, S: TimeSet> Tracker<'a, S> {
     /// A possible state from which the exchange leads to the target, or `None` exactly where there is none. Which one it is of
     /// several is not said.
     ///
-    /// An error comes where memory is refused. It takes memory only where something is forgotten besides.
+    /// An error comes where memory is refused. None comes where the deck forgets nothing besides.
     pub fn before_exchange(
         &self,
         exchange: &Exchange,
@@ -140,6 +172,7 @@ impl<'a, S: TimeSet> Tracker<'a, S> {
     ) -> Result<Option<State>, AllocError>
         ensures some { IfOk result (λ o. IfSome o (λ s. Possible self.now.states s × Goes self.now.profile exchange.now s target.now)) }
         ensures none { IfOk result (λ o. IfNone o (¬ ((s : AState) × Possible self.now.states s × Goes self.now.profile exchange.now s target.now))) }
+        ensures frugal { forgotten_with self.now.profile.deck exchange.now ≡ Forgotten.Nothing → IsOk result }
     {
         match self.deck.forgotten_with(exchange) {
             Forgotten::Nothing => Ok(self.before(&exchange.command, &exchange.reply, target)),

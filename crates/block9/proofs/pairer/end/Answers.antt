@@ -1,4 +1,4 @@
-use Rattle.block9.proofs.Words.{completes, refl, rules, sym}
+use Rattle.block9.proofs.Words.{ap, completes, refl, Refusal, rules, Some, sym, ◌∙◌}
 use Rattle.block9.proofs.FeedLemmas.{ends_exchange, reply_says}
 use Rattle.block9.proofs.StandsLemmas.{right_sum}
 use Rattle.block9.proofs.pairer.end.Goals as goal
@@ -18,8 +18,9 @@ returns-in-Ok-end_reply-clause-ok c =
 pub returns-in-Err-end_reply-clause-err : goal.returns-in-Err-end_reply-clause-err
 returns-in-Err-end_reply-clause-err c =
     let right = right_sum c.args.tail.now c.args.block.now c.args.line_byte.byte c.requires.held.stands (sym c.requires.ends.1) (search rules) in
-    rw c.refuse-in-Err-end_reply.ensures.refused (
+    rw (c.refuse-in-Err-end_reply.ensures.refused, c.of-in-Err-end_reply.ensures) (
       reply_says c.args.rules.now c.args.tail.now c.args.block.now c.args.exchange.now c.args.line_byte _ c.requires.held c.in-Deck.is c.requires.ends right c.in-Err-end_reply.ensures.err,
-      c.refuse-in-Err-end_reply.ensures.kept,
+      refl,
+      c.refuse-in-Err-end_reply.ensures.kept ∙ ap (λ (x : Refusal). Some x.reason) c.of-in-Err-end_reply.ensures,
       c.in-Err-end_reply.ensures.same.0,
     )

@@ -1,22 +1,18 @@
-use Rattle.judge9.proofs.Words.{ap, None, View}
-use Rattle.judge9.specs.RunVerdict.{judged_of, verdict_of}
+use Rattle.judge9.proofs.Words.{option_map, rows_of}
+use Rattle.judge9.specs.RunVerdict.{judged_of}
 use Rattle.judge9.proofs.run_judging.judge_with_run_for.Goals as goal
-use Rattle.judge9.proofs.TellLemmas.{answer_of_text, stopped_of_text, told-nothing}
+use Rattle.judge9.proofs.Endings.{answers_of}
+use Rattle.judge9.proofs.RunLemmas.{answered_nothing}
 use Rattle.judge9.proofs.TurnSteps.{handed}
 
 pub returns-in_err-judging-clause-run : goal.returns-in_err-judging-clause-run
 returns-in_err-judging-clause-run g c =
-    rw (handed c.from_residual.result c.from_residual.ensures.1) (let told = told-nothing View.Verdict c.args.beginning c.args.profile.now _ None in
-    record { rows = told.rows; is_known = told.is_known; of_a_text = told.of_a_text; answer = tt; run = tt })
+    rw (handed c.from_residual.result c.from_residual.ensures.1)
+    (let a = answered_nothing c.args.beginning c.args.profile.now (option_map rows_of (g.R.Read.remaining c.args.reader)) in
+    record { rows = a.all; is_known = a.is_known; of_a_text = a.of_a_text; answer = tt; run = tt })
 
-pub returns : goal.returns
-returns g c =
-    let judged = rw c.in_ok-judging.ensures.rows at c.judge_rows-verdict.ensures in
-    let told = judged.judges.told in record {
-      answer = answer_of_text _ judged.judges;
-      run = record { rows = told.rows; is_known = told.is_known; of_a_text = told.of_a_text; answer = told.answer; run = judged.run };
-      stopped = stopped_of_text verdict_of _ _ judged.judges;
-      kind = λ e same. judged.judges.is_kind e (ap judged_of same);
-      write = judged.no_write;
-      can_be = judged.judges.can_be;
-    }
+pub returns-clause-answers : goal.returns-clause-answers
+returns-clause-answers g c =
+    let stands = c.in_ok-judging.ensures.stands in
+    let judged = rw (stands.same_scope, stands.same_profile, c.in_ok-judging.ensures.rows) at c.find_run-verdict.ensures in
+    answers_of (judged_of c.find_run-verdict.result) (g.R.Read.remaining c.args.reader) judged.answered

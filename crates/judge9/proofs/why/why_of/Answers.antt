@@ -3,9 +3,6 @@ use Rattle.judge9.proofs.WhySteps.{no_run_said}
 
 pub returns-in-NoRun : goal.returns-in-NoRun
 returns-in-NoRun g c =
-    let said = rw c.given-at.ensures at c.why_no_run.ensures in
-    no_run_said _ _ c.args.broken c.args.judging.now.follower.pairer c.args.log.kept.items c.args.log.end_us c.exchange-last.result.now c.in-NoRun.is
+    let said = rw c.at.ensures at c.why_no_run.ensures in
+    no_run_said _ _ c.args.broken c.args.judging.now.feed.follower.pairer c.args.kept.exchanges.items c.args.kept.end_us c.exchange-last.result.now c.in-NoRun.is
     c.exchange-last.ensures c.why_no_run.result said
-
-pub returns-in_default : goal.returns-in_default
-returns-in_default g c = rw c.given-at.ensures at (c.why_broken.ensures c.args.profile.now)

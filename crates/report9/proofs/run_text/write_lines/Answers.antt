@@ -1,4 +1,5 @@
-use Rattle.report9.proofs.Words.{[], arith, either_empty_from_Zip, failed, length-append, Zip-more, ◌∷◌}
+use Rattle.report9.proofs.Words.{[], arith, either_empty_from_Zip, length-append, Zip-more, ◌∷◌}
+use Rattle.report9.proofs.WriteLemmas.{failed}
 use Rattle.report9.proofs.run_text.write_lines.Goals as goal
 use Rattle.report9.proofs.Lines.{lines-end, lines-more, lines-part}
 

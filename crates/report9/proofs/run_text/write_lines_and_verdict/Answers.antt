@@ -1,4 +1,5 @@
-use Rattle.report9.proofs.Words.{length, line_of, lines_of_run, piece_after, Verdict}
+use Rattle.report9.proofs.Words.{length, line_of, lines_of_run, Verdict}
+use Rattle.report9.proofs.WriteLemmas.{piece_after}
 use Rattle.report9.proofs.run_text.write_lines_and_verdict.Goals as goal
 
 pub returns-in_ok-write_lines-in-Yes : goal.returns-in_ok-write_lines-in-Yes

@@ -1,4 +1,5 @@
-use Rattle.report9.proofs.Words.{none_written, refl, writes, ◌∙◌}
+use Rattle.report9.proofs.Words.{refl, ◌∙◌}
+use Rattle.report9.proofs.WriteLemmas.{none_written, writes}
 use Rattle.report9.proofs.run_text.write_no.Goals as goal
 
 pub returns-in_err-put_no_line : goal.returns-in_err-put_no_line

@@ -1,4 +1,5 @@
-use Rattle.report9.proofs.Words.{line_of_could_show, on_ok_weaker, pieces4}
+use Rattle.report9.proofs.Words.{line_of_could_show, on_ok_weaker}
+use Rattle.report9.proofs.PieceLemmas.{pieces4}
 use Rattle.report9.proofs.why_text.put_could_show.Goals as goal
 
 pub returns : goal.returns

@@ -1,6 +1,6 @@
 use Rattle.block9.proofs.Words.{answers_late, early_fault, leaves_open, place_of, refl, rules, Some, sym, ◌≡◌, ◌∙◌}
 use Rattle.std.proofs.lemmas.Result.{IfErr-weaker, IfOk-weaker}
-use Rattle.block9.proofs.FeedLemmas.{completed_refused, completed_step, early_told, fed_in_order, fed_refused, fed_step, fed_waiting, held_waiting, is_late_reply, not_late, open_completed, refuses, takes}
+use Rattle.block9.proofs.FeedLemmas.{completed_refused, completed_step, early_told, fed_in_order, fed_refused, fed_step, fed_waiting, held_waiting, is_late_reply, last_not_late, late_of_view, not_late, open_completed, refuses, takes, tells_late}
 use Rattle.block9.proofs.pairer.Pairer.feed.Goals as goal
 
 -- a record that begins a block or goes on with one
@@ -23,7 +23,7 @@ pub returns-then-late-clause-takes : goal.returns-then-late-clause-takes
 returns-then-late-clause-takes c = λ known.
     let later = fed_in_order c.self.inside.rules c.self.inside.tail _ c.self.inside.passed_us c.args.line_byte _ _ c.self.view_is c.in_default.is refl c.requires in
     let held = held_waiting c.self.inside.rules _ _ _ c.args.line_byte c.in-Ok-Open.block c.self.invariant later (search rules) (search rules) (search rules) in
-    let late = is_late_reply c.self.inside.rules _ _ _ c.args.line_byte c.self.invariant (search rules) (sym c.if-late.true ∙ (rw (c.in-Ok-Open.field-0-is, c.as_slice.ensures) at c.in-Ok-Open.ensures.ok.1).1) in (
+    let late = is_late_reply c.self.inside.rules _ _ _ c.args.line_byte c.self.invariant (sym c.if-late.true ∙ (rw (c.in-Ok-Open.field-0-is, c.as_slice.ensures) at c.in-Ok-Open.ensures.ok.1).1) in (
       answers_late,
       refl,
       takes c.self.inside.rules _ _ _ _ answers_late c.self.view_is refl refl (held.2, late) c.push.ensures
@@ -58,14 +58,23 @@ returns-clause-takes c = λ known.
 pub returns-in-Err-clause-refuses : goal.returns-in-Err-clause-refuses
 returns-in-Err-clause-refuses c = λ known.
     let later = fed_in_order c.self.inside.rules c.self.inside.tail _ c.self.inside.passed_us c.args.line_byte _ _ c.self.view_is c.in_default.is refl c.requires in
-    let told : early_fault c.self.inside.rules.reply_limit (place_of c.self.inside.tail) c.self.inside.tail c.args.line_byte ≡ Some c.in-Err.reason = search rules in
-    rw c.refuse.ensures.refused (refuses c.self.inside.rules _ _ _ _ c.args.line_byte c.in-Err.reason c.self.view_is refl refl c.self.invariant.held later
-    (early_told c.self.inside.rules c.self.inside.tail c.args.line_byte _ told) refl (rw c.refuse.ensures.kept (fed_refused c.self.inside.rules c.self.inside.tail _ _)) c.refuse.ensures.kept
-    (rw c.refuse.ensures.kept (completed_refused c.self.inside.rules c.self.inside.tail _ _ _)))
+    let told : early_fault c.self.inside.rules.reply_limit (place_of c.self.inside.tail) c.self.inside.tail c.args.line_byte ≡ Some c.in-Err.refusal.reason = (rw c.as_slice.ensures at c.in-Err.ensures.err).0 in
+    let late = tells_late c.self.inside.rules _ _ _ c.args.line_byte c.self.invariant c.in-Err.refusal.late (rw c.as_slice.ensures at c.in-Err.ensures.err).1 in
+    rw c.refuse.ensures.refused (
+      refuses c.self.inside.rules _ _ _ _ c.args.line_byte c.in-Err.refusal.reason c.self.view_is refl refl c.self.invariant.held later
+          (early_told c.self.inside.rules c.self.inside.tail c.args.line_byte _ told) refl (rw c.refuse.ensures.kept (fed_refused c.self.inside.rules c.self.inside.tail _ _)) c.refuse.ensures.kept
+          (rw c.refuse.ensures.kept (completed_refused c.self.inside.rules c.self.inside.tail _ _ _)),
+      late_of_view c.self.inside.rules _ _ _ c.self.view_is refl _ late,
+    )
 
 pub returns-clause-refuses : goal.returns-clause-refuses
 returns-clause-refuses c = λ known.
     let later = fed_in_order c.self.inside.rules c.self.inside.tail _ c.self.inside.passed_us c.args.line_byte _ _ c.self.view_is c.in_default.is refl c.requires in
-    IfErr-weaker c.end.result _ _ (λ reason err.
-    refuses c.self.inside.rules _ _ _ _ c.args.line_byte reason c.self.view_is refl refl c.self.invariant.held later err.0 err.2
-    (rw err.1 (fed_refused c.self.inside.rules c.end.new.tail reason _)) err.1 (rw err.1 (completed_refused c.self.inside.rules c.end.new.tail reason _ _))) c.end.ensures.err
+    let last = (rw (c.in-Ok-Last.field-0-is, c.as_slice.ensures) at c.in-Ok-Last.ensures.ok).1 in
+    let in_time = last_not_late c.self.inside.rules c.self.inside.tail _ _ c.args.line_byte c.self.invariant last in
+    IfErr-weaker c.end.result _ _ (λ refusal err. (
+      refuses c.self.inside.rules _ _ _ _ c.args.line_byte refusal.reason c.self.view_is refl refl c.self.invariant.held later err.0 err.3
+          (rw err.2 (fed_refused c.self.inside.rules c.end.new.tail refusal.reason _)) err.2 (rw err.2 (completed_refused c.self.inside.rules c.end.new.tail refusal.reason _ _)),
+      late_of_view c.self.inside.rules _ _ _ c.self.view_is refl _
+          (tells_late c.self.inside.rules _ _ _ c.args.line_byte c.self.invariant refusal.late (err.1 ∙ sym in_time)),
+    )) c.end.ensures.err

@@ -1,56 +1,18 @@
-use Rattle.judge9.proofs.Words.{ap, Err, inl, inr, refl, sym, ◌∙◌}
 use Rattle.judge9.proofs.judging.Judging.take_up.Goals as goal
+use Rattle.judge9.proofs.Marking.{shows_if}
+use Rattle.judge9.proofs.Measure.{on_up}
 use Rattle.judge9.proofs.TurnSteps.{handed}
 
-pub returns-then-begins_next_part : goal.returns-then-begins_next_part
-returns-then-begins_next_part g c =
-    inr (rw (sym c.begins_next_part.ensures ∙ c.if-begins_next_part.true) (λ before gives. record {
-      follower = c.begin_anew.new.self;
-      knows_nothing = c.in_ok-begin_anew.ensures;
-      with_first = c.begin.ensures before gives;
-    }))
+pub returns-in_err-event-in-WholeCapture-clause-parts : goal.returns-in_err-event-in-WholeCapture-clause-parts
+returns-in_err-event-in-WholeCapture-clause-parts g c = λ whole.
+    rw (handed c.from_residual.result c.from_residual.ensures.1, whole) c.in_err-event-in-WholeCapture.ensures
 
-pub returns-in_err-first : goal.returns-in_err-first
-returns-in_err-first g c =
-    let over = c.in_err-first.ensures in
-    rw (handed c.from_residual-in_err-first.result c.from_residual-in_err-first.ensures.1) (inr (rw (sym c.begins_next_part.ensures ∙ c.if-begins_next_part.false) (record {
-      passed = over.passed;
-      none_begins = over.none_begins;
-      mid = over.mid;
-      gives = over.gives;
-      then = inr (inr (over.then.0, over.then.1, ap Err over.then.2));
-    })))
+pub mark-requires : goal.mark-requires
+mark-requires g c = record {
+  shows = shows_if c.take_up.new.self c.in_ok-event-in-WholeCapture.event
+      (on_up _ c.requires.0 c.args.broken c.args.self.now.feed _ c.take_up.new.self c.requires.1 c.in_ok-event-in-WholeCapture.ensures).1;
+}
 
-pub begin-requires-in-Some-clause-read : goal.begin-requires-in-Some-clause-read
-begin-requires-in-Some-clause-read g c =
-    let over = rw c.in-Some.is at c.in_ok-first.ensures in (over.mid, over.then.1)
-
-pub returns-in-Some : goal.returns-in-Some
-returns-in-Some g c =
-    let over = rw c.in-Some.is at c.in_ok-first.ensures in
-    inr (rw (sym c.begins_next_part.ensures ∙ c.if-begins_next_part.false) (record {
-      passed = over.passed;
-      none_begins = over.none_begins;
-      mid = over.mid;
-      gives = over.gives;
-      then = inl (
-        c.in-Some.first,
-        over.then.0,
-        record {
-          follower = c.begin_anew.new.self;
-          knows_nothing = c.in_ok-begin_anew.ensures;
-          with_first = c.begin-in-Some.ensures over.mid over.then.1;
-        },
-      );
-    }))
-
-pub returns-in-None : goal.returns-in-None
-returns-in-None g c =
-    let over = rw c.in-None.is at c.in_ok-first.ensures in
-    inr (rw (sym c.begins_next_part.ensures ∙ c.if-begins_next_part.false) (record {
-      passed = over.passed;
-      none_begins = over.none_begins;
-      mid = over.mid;
-      gives = over.gives;
-      then = inr (inl (refl, over.then, c.in_ok-begin_anew.ensures));
-    }))
+pub returns-in_ok-event-in-WholeCapture-clause-parts : goal.returns-in_ok-event-in-WholeCapture-clause-parts
+returns-in_ok-event-in-WholeCapture-clause-parts g c = λ whole.
+    (c.in_ok-event-in-WholeCapture.event, c.take_up.new.self, rw whole c.in_ok-event-in-WholeCapture.ensures, c.mark.ensures)

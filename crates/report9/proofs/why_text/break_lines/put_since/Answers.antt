@@ -1,4 +1,5 @@
-use Rattle.report9.proofs.Words.{on_ok_weaker, pieces2}
+use Rattle.report9.proofs.Words.{on_ok_weaker}
+use Rattle.report9.proofs.PieceLemmas.{pieces2}
 use Rattle.report9.proofs.why_text.break_lines.put_since.Goals as goal
 
 pub returns : goal.returns

@@ -1,0 +1,191 @@
+-- Why a part breaks is told in one way.
+use Rattle.judge9.proofs.Words.{[], ap, arith, Bool, BrokenPart, Command, CouldShow, Exchange, has, HasRun, if◌then◌else◌, IsKnowledge, IsKnown, IsKnownEntry, IsWhy, Knowledge, Known, KnownEntry, length, length_push}
+use Rattle.judge9.proofs.Words.{line_of, line_rules, LineByte, LineRules, List, Mode, ModeSet, None, Option, Outcome, Profile, Reason, refl, Register, same_parts, Some, some_end, State, sym, Terms, text_of_why, true, Verdict, WhyNo, ℕ}
+use Rattle.judge9.proofs.Words.{bytes_of, command_of, EndedExchange, false, IsBefore, length-append, ◌++◌, ◌+◌, ◌-◌, ◌↔◌, ◌∙◌, ◌∷◌, ◌≡◌}
+use Rattle.std.specs.Prelude.{codes, ◌%◌}
+use Rattle.std.specs.List.{list_all, list_any, sum}
+use Rattle.capture9.specs.declared.line_byte.Wire.TheVariants.{Controller}
+use Rattle.block9.proofs.LineLemmas.{whole_long, whole_parts}
+use Rattle.block9.proofs.TailLemmas.{in_reply_of, place_in_command, place_of_command}
+use Rattle.block9.specs.Exchange.{IsCommand, records_in}
+use Rattle.block9.specs.Line.{block_len}
+use Rattle.block9.specs.Pairer.{IsOpenAfter}
+use Rattle.block9.specs.Pairer.IsOpenAfter.{after_command, in_command, in_reply, nothing}
+use Rattle.block9.specs.declared.block.Block.{Block}
+use Rattle.block9.specs.declared.open.Open.{Open}
+use Rattle.deck9.specs.Mode.{every_mode, name_of as name_of_mode}
+use Rattle.report9.specs.ExchangeBytes.{text_of_modes}
+use Rattle.report9.specs.Explanation.{text_of_fields}
+use Rattle.report9.specs.Row.{in_a_row, names_of}
+use Rattle.report9.specs.WhyText.{end_before, line_if_ended, line_of_breaking, line_of_could_show, lines_at, lines_of_break, lines_of_open, text_of_shown}
+use Rattle.why9.proofs.OneContradiction.{one_contradiction}
+use Rattle.why9.specs.Shown.{CouldBe}
+use Rattle.judge9.proofs.EventSteps.{does_once}
+
+-- ---- what is open
+
+-- what is open in a reply to a command
+abbrev in_reply_with : Command → List LineByte → List LineByte → Open
+in_reply_with c command reply = record { command = Some c; asked = length command; answered = length reply; wanted = block_len reply; sum = sum (bytes_of reply) % 256 }
+
+module _ (rules : LineRules) where
+  command_once : (t : List LineByte) (b d : Block) (c e : Command) → IsCommand rules t b c → IsCommand rules t d e → c ≡ e
+  command_once t b d c e h k =
+      let block = (whole_parts Controller t t [] [] b d h.whole k.whole refl).2 in
+      let meaning = sym h.meaning ∙ ap (λ x. command_of rules.rate x) block ∙ k.meaning in cc
+
+  pub open_once : (t : List LineByte) (o p : Open) → IsOpenAfter rules t o → IsOpenAfter rules t p → o ≡ p
+  open_once t o p (nothing none same) (nothing also is) = same ∙ sym is
+  open_once t o p (nothing none same) (in_command begun is) = absurd (let some = begun.begun in omega (arith, ap length none))
+  open_once t o p (nothing none same) (after_command b c h is) = absurd (omega (arith, ap length none, whole_long Controller t b h.whole))
+  open_once t o p (nothing none same) (in_reply command reply b c split h begun soon is) =
+      absurd (let some = begun.begun in omega (arith, ap length none, ap length split, length-append command reply))
+  open_once t o p (in_command begun same) (nothing none is) = absurd (let some = begun.begun in omega (arith, ap length none))
+  open_once t o p (in_command begun same) (in_command also is) = same ∙ sym is
+  open_once t o p (in_command begun same) (after_command b c h is) =
+      absurd (let after = place_of_command rules Controller t b h.whole in let inside = place_in_command rules Controller t begun in cc)
+  open_once t o p (in_command begun same) (in_reply command reply b c split h answered soon is) =
+      absurd (let after = (in_reply_of rules command reply t b c split h answered.begun).place in let inside = place_in_command rules Controller t begun in cc)
+  open_once t o p (after_command b c h same) (nothing none is) = absurd (omega (arith, ap length none, whole_long Controller t b h.whole))
+  open_once t o p (after_command b c h same) (in_command begun is) =
+      absurd (let after = place_of_command rules Controller t b h.whole in let inside = place_in_command rules Controller t begun in cc)
+  open_once t o p (after_command b c h same) (after_command d e k is) =
+      same ∙ ap (λ x. record { command = Some x; asked = length t; answered = 0; wanted = 0; sum = 0 }) (command_once t b d c e h k) ∙ sym is
+  open_once t o p (after_command b c h same) (in_reply command reply d e split k answered soon is) =
+      absurd (let after = place_of_command rules Controller t b h.whole in let inside = (in_reply_of rules command reply t d e split k answered.begun).place in cc)
+  open_once t o p (in_reply command reply b c split h answered soon same) (nothing none is) =
+      absurd (let some = answered.begun in omega (arith, ap length none, ap length split, length-append command reply))
+  open_once t o p (in_reply command reply b c split h answered soon same) (in_command begun is) =
+      absurd (let after = (in_reply_of rules command reply t b c split h answered.begun).place in let inside = place_in_command rules Controller t begun in cc)
+  open_once t o p (in_reply command reply b c split h answered soon same) (after_command d e k is) =
+      absurd (let after = place_of_command rules Controller t d k.whole in let inside = (in_reply_of rules command reply t b c split h answered.begun).place in cc)
+  open_once t o p (in_reply command reply b c split h answered soon same) (in_reply asked answer d e parted k replied later is) =
+      let parts = whole_parts Controller command asked reply answer b d h.whole k.whole (sym split ∙ parted) in
+      let one = command_once asked b d c e (rw parts.0 at h) k in
+      same ∙ ap (λ l. in_reply_with c l reply) parts.0 ∙ ap (λ l. in_reply_with c asked l) parts.1 ∙ ap (λ x. in_reply_with x asked answer) one ∙ sym is
+
+-- ---- the exchange before
+
+before_once : (records : List LineByte) (es : List Exchange) (tail : List LineByte) (x y : Option EndedExchange) → IsBefore records es tail x → IsBefore records es tail y → x ≡ y
+before_once records es (r ∷ tail) x y a b = a ∙ sym b
+before_once records es [] None None a b = refl
+before_once records es [] None (Some last) a b = absurd (omega (arith, ap length (sym a ∙ b.1), length_push b.0 last.exchange))
+before_once records es [] (Some last) None a b = absurd (omega (arith, ap length (sym b ∙ a.1), length_push a.0 last.exchange))
+before_once records es [] (Some last) (Some other) a b =
+    let same = sym a.1 ∙ b.1 in
+    let parts = (same_parts a.0 b.0 (last.exchange ∷ []) (other.exchange ∷ []) (omega (arith, ap length same, length_push a.0 last.exchange, length_push b.0 other.exchange)) same).1 in
+    let exchange : last.exchange ≡ other.exchange = cc in
+    ap (λ e. Some (record { exchange = e; end_us = last.end_us })) exchange ∙ ap (λ n. Some (record { exchange = other.exchange; end_us = n })) (a.2 ∙ sym b.2)
+
+-- ---- what the deck could show
+
+known_once : {A : Type 0} (X : State → Type 0) (field : State → A) (a b : Known A) → ((s : State) × X s) → IsKnown X field a → IsKnown X field b → a ≡ b
+known_once X field a b some h k = grind arith
+
+entry_once : (X : State → Type 0) (r : Register) (a b : KnownEntry) → ((s : State) × X s) → IsKnownEntry X r a → IsKnownEntry X r b → a ≡ b
+entry_once X r a b some h k = grind arith
+
+knowledge_once : (X : State → Type 0) (k l : Knowledge) → ((s : State) × X s) → IsKnowledge X k → IsKnowledge X l → k ≡ l
+knowledge_once X k l some a b = by (λ q r s t u v w x. record { goal = q; shown = r; ins = s; outs = t; ains = u; aouts = v; local = w; panel = x })
+  where
+    by : (make : Known Mode → Known Mode → KnownEntry → KnownEntry → KnownEntry → KnownEntry → Known Bool → Known Bool → Knowledge)
+        → make k.goal k.shown k.ins k.outs k.ains k.aouts k.local k.panel ≡ make l.goal l.shown l.ins l.outs l.ains l.aouts l.local l.panel
+    by make = cc (
+      known_once X (λ (s : State). s.goal) k.goal l.goal some a.goal b.goal,
+      known_once X (λ (s : State). s.shown) k.shown l.shown some a.shown b.shown,
+      known_once X (λ (s : State). s.local) k.local l.local some a.local b.local,
+      known_once X (λ (s : State). s.panel) k.panel l.panel some a.panel b.panel,
+      entry_once X Register.RegIn k.ins l.ins some a.ins b.ins,
+      entry_once X Register.RegOut k.outs l.outs some a.outs b.outs,
+      entry_once X Register.RegAudioIn k.ains l.ains some a.ains b.ains,
+      entry_once X Register.RegAudioOut k.aouts l.aouts some a.aouts b.aouts,
+    )
+
+bool_once : (a b : Bool) (P : Type 0) → (a ≡ true) ↔ P → (b ≡ true) ↔ P → a ≡ b
+bool_once true true P h k = refl
+bool_once true false P h k = sym (k.1 (h.0 refl))
+bool_once false true P h k = h.1 (k.0 refl)
+bool_once false false P h k = refl
+
+module _ (f g : Mode → Bool) (same : (m : Mode) → f m ≡ g m) where
+  all_same : (ms : List Mode) → list_all f ms ≡ list_all g ms
+  all_same [] = refl
+  all_same (m ∷ ms) = rw (same m, all_same ms) refl
+
+  any_same : (ms : List Mode) → list_any f ms ≡ list_any g ms
+  any_same [] = refl
+  any_same (m ∷ ms) = rw (same m, any_same ms) refl
+
+  names_same : (ms : List Mode) → names_of f name_of_mode ms ≡ names_of g name_of_mode ms
+  names_same [] = refl
+  names_same (m ∷ ms) = rw (same m, names_same ms) refl
+
+shown_once : (set other : ModeSet) → ((m : Mode) → has set.0 m ≡ has other.0 m) → text_of_shown set ≡ text_of_shown other
+unfolding text_of_shown text_of_modes
+shown_once set other same =
+    ap (λ b. if b then codes "any" else text_of_modes set) (all_same (has set.0) (has other.0) same every_mode)
+    ∙ ap (λ b. if list_all (has other.0) every_mode then codes "any" else (if b then in_a_row [] (codes "|") (names_of (has set.0) name_of_mode every_mode) else codes "none"))
+    (any_same (has set.0) (has other.0) same every_mode)
+    ∙ ap (λ l. if list_all (has other.0) every_mode then codes "any" else (if list_any (has other.0) every_mode then in_a_row [] (codes "|") l else codes "none"))
+    (names_same (has set.0) (has other.0) same every_mode)
+
+could_show_once : (profile : Profile) (es : List Exchange) (e : Exchange) (k l : Knowledge) (set other : ModeSet) → HasRun profile es
+    → CouldShow profile (es ++ e ∷ []) k set → CouldShow profile (es ++ e ∷ []) l other → line_of_could_show profile k set ≡ line_of_could_show profile l other
+unfolding line_of_could_show
+could_show_once profile es e k l set other run a b =
+    ap (λ t. codes "could show: shown " ++ t ++ text_of_fields profile k ++ codes "\n") (shown_once set other modes)
+    ∙ ap (λ x. codes "could show: shown " ++ text_of_shown other ++ text_of_fields profile x ++ codes "\n") knows
+  where
+    same_before : (before : List Exchange) (last : Exchange) → es ++ e ∷ [] ≡ before ++ last ∷ [] → before ≡ es
+    same_before before last split =
+        sym (same_parts es before (e ∷ []) (last ∷ []) (omega (arith, ap length split, length_push es e, length_push before last)) split).0
+
+    one : a.before ≡ es
+    one = same_before a.before a.last a.split
+
+    also : b.before ≡ es
+    also = same_before b.before b.last b.split
+
+    some : (s : State) × CouldBe profile es s
+    some = let end = (some_end profile es).1 run in (end.0, (end.0, end.1, ([], refl)))
+
+    knows : k ≡ l
+    knows = knowledge_once (CouldBe profile es) k l some (rw one at a.knows) (rw also at b.knows)
+
+    modes : (m : Mode) → has set.0 m ≡ has other.0 m
+    modes m = bool_once (has set.0 m) (has other.0 m) ((s : State) × CouldBe profile es s × (s.shown ≡ m)) (rw one at (a.shows m)) (rw also at (b.shows m))
+
+-- ---- why a part breaks
+
+abbrev text_of_break : Profile → ℕ → Reason → List LineByte → Open → Option EndedExchange → LineByte → List ℕ
+text_of_break p at reason items o before r =
+    (line_if_ended p (at - (length items + 1)) before ++ lines_of_open p (at - (length items + 1)) items o r.wire
+    ++ line_of_breaking at reason r (end_before items before) o.sum) ++ line_of (Verdict.No at reason)
+
+abbrev text_of_contradiction : Profile → ℕ → List Exchange → List ℕ → List ℕ → List ℕ
+text_of_contradiction p at es places line = lines_at p places 0 (at - records_in es) es ++ line ++ line_of (Verdict.No at Reason.NoRun)
+
+pub why_once : (terms : Terms) (b : BrokenPart) (v w : WhyNo) → HasRun terms.profile b.part.exchanges → IsWhy terms b v → IsWhy terms b w
+    → text_of_why terms.profile v ≡ text_of_why terms.profile w
+unfolding lines_of_break
+why_once terms b (WhyNo.Break at reason tail o before r) (WhyNo.Break n x items p last s) run is also =
+    let p0 = terms.profile in
+    ap (λ m. text_of_break p0 m reason tail.items o before r) (is.0 ∙ sym also.0)
+    ∙ ap (λ y. text_of_break p0 n y tail.items o before r) (is.1 ∙ sym also.1)
+    ∙ ap (λ l. text_of_break p0 n x l o before r) (is.4 ∙ sym also.4)
+    ∙ ap (λ q. text_of_break p0 n x items.items q before r) (open_once (line_rules terms) b.part.tail o p is.5 also.5)
+    ∙ ap (λ q. text_of_break p0 n x items.items p q r) (before_once b.part.records b.part.exchanges b.part.tail before last is.6 also.6)
+    ∙ ap (λ q. text_of_break p0 n x items.items p last q) (is.3 ∙ sym also.3)
+why_once terms b (WhyNo.Break at reason tail o before r) (WhyNo.Contradiction n es places k set) run is also = absurd (is.2 also.1)
+why_once terms b (WhyNo.Contradiction n es places k set) (WhyNo.Break at reason tail o before r) run is also = absurd (also.2 is.1)
+why_once terms b (WhyNo.Contradiction at es places k set) (WhyNo.Contradiction n fs others l modes) run is also =
+    let p0 = terms.profile in
+    let done = does_once (line_rules terms) b.part.tail b.breaking (Outcome.completes is.2) (Outcome.completes also.2) is.3 also.3 in
+    let ended : is.2 ≡ also.2 = cc in
+    let exchanges : es.items ≡ b.part.exchanges ++ also.2 ∷ [] = is.4 ∙ ap (λ e. b.part.exchanges ++ e ∷ []) ended in
+    let same : es.items ≡ fs.items = exchanges ∙ sym also.4 in
+    ap (λ m. text_of_contradiction p0 m es.items places.items (line_of_could_show p0 k set)) (is.0 ∙ sym also.0)
+    ∙ ap (λ q. text_of_contradiction p0 n es.items q (line_of_could_show p0 k set)) (one_contradiction p0 fs.items places.items others.items (rw same at is.5) also.5)
+    ∙ ap (λ q. text_of_contradiction p0 n q others.items (line_of_could_show p0 k set)) same
+    ∙ ap (λ q. text_of_contradiction p0 n fs.items others.items q)
+    (could_show_once p0 b.part.exchanges also.2 k l set modes run (rw exchanges at is.6) (rw also.4 at also.6))

@@ -1,0 +1,220 @@
+-- Where a judging stands between two events, and what the next one is.
+use Rattle.std.specs.Prelude.{◌≡◌, ◌⊎◌, ◌+◌, ◌*◌, ◌-◌, ◌≤◌, ◌<◌, ◌^◌, ℕ, Bool, true, false, if◌then◌else◌, List, [], ◌∷◌, ◌++◌, length, Option, Some, None, Result, Ok, Err, ⊤}
+use Rattle.std.specs.Option.{ForSome}
+use Rattle.capture9.specs.declared.line_byte.LineByte.{LineByte}
+use Rattle.capture9.specs.Fields.{greatest_limit}
+use Rattle.capture9.specs.Records.{GivesRecord, Progress}
+use Rattle.capture9.specs.Rows.{Rows}
+use Rattle.block9.specs.declared.exchange.Exchange.{Exchange}
+use Rattle.block9.specs.Exchange.{records_in, records_of}
+use Rattle.deck9.specs.declared.profile.Profile.{Profile}
+use Rattle.deck9.specs.declared.state.State.{State}
+use Rattle.track9.specs.Following.{KeepsEnds}
+use Rattle.track9.specs.Tracker.{Possible}
+use Rattle.report9.specs.declared.totals.Totals.{Totals}
+use Rattle.report9.specs.declared.error.JudgeError.{JudgeError}
+use Rattle.report9.specs.declared.error.JudgeError.TheVariants.{OutOfMemory}
+use Rattle.report9.specs.declared.verdict.Beginning.{Beginning}
+use Rattle.report9.specs.declared.verdict.Extent.{Extent}
+use Rattle.report9.specs.declared.verdict.Extent.TheVariants.{FirstBreak, WholeCapture}
+use Rattle.report9.specs.declared.verdict.Scope.{Scope}
+use Rattle.judge9.specs.declared.counts.Counts.{Counts}
+use Rattle.judge9.specs.declared.event.Break.{Break}
+use Rattle.judge9.specs.declared.event.Event.{Event}
+use Rattle.judge9.specs.declared.event.Event.TheVariants as event
+use Rattle.judge9.specs.declared.feed.Feed.{Feed}
+use Rattle.judge9.specs.declared.judging.Judging.{Judging}
+use Rattle.judge9.specs.declared.stage.Stage.{Stage}
+use Rattle.judge9.specs.declared.stage.Stage.TheVariants as stage
+use Rattle.judge9.specs.Beginning.{Rest, judged_from, rest_after, takes_up_at}
+use Rattle.judge9.specs.Events.{AreRead, ComesToEnd, IsRefused, IsSilent, Reached, Tells}
+use Rattle.judge9.specs.History.{History, no_part, nothing_told, told_in}
+use Rattle.judge9.specs.Parts.{AreParts, BrokenPart, IsPart, Part, TellsBesides, events_of, exchanges_of, late_replies, number_of}
+use Rattle.judge9.specs.Parts.Event.{late_reply}
+use Rattle.judge9.specs.Verdict.{Terms, line_rules, rows_allowed, terms_for}
+use Rattle.judge9.specs.Working.Beginnings.{TakesUp}
+use Rattle.judge9.specs.Working.Turns.{IsFresh, Spoils}
+
+-- ---- what a judging needs to go on, whatever it judges
+
+abbrev pub CanGoOn : {R : Type 0} → Stage → Feed R → Type 0
+CanGoOn stage.Fresh j = (limit : ℕ) × (terms : Terms) × IsFresh limit terms j
+CanGoOn stage.Going j = (j.follower.pairer.reason ≡ None) × ForSome j.follower.pairer.last_time (λ time. time ≤ j.rows.last_time)
+CanGoOn {R} (stage.Besides b) j = (before : Progress R) × GivesRecord before b.record j.rows
+CanGoOn {R} (stage.Broken b) j = (before : Progress R) × GivesRecord before b.record j.rows
+CanGoOn stage.Ended j = ⊤
+
+-- it shows an exchange, with which a state of the deck remains
+abbrev pub ShowsExchange : {R : Type 0} → Feed R → Type 0
+ShowsExchange j = ((e : Exchange) × (j.follower.pairer.exchange ≡ Some e)) × ((s : State) × Possible j.follower.tracker.states s)
+
+-- what is left to do: rows that are still to come, and a record that broke a part may begin the next and break that too
+abbrev pub weight : Stage → ℕ
+weight stage.Fresh = 1
+weight stage.Going = 1
+weight (stage.Besides b) = 4
+weight (stage.Broken b) = if takes_up_at b.reason then 3 else 2
+weight stage.Ended = 0
+
+abbrev pub left_of : {R : Type 0} → Judging R → ℕ
+left_of j = 4 * (greatest_limit - j.feed.rows.given) + weight j.stage
+
+-- ---- where it stands
+
+-- the records so far of a part, behind these of the capture, keep the rules: the pairer has their tail, and the tracker keeps the
+-- states that the runs of their exchanges end in
+pub record InPart {R : Type 0} (limit : ℕ) (terms : Terms) (rows : Option Rows) (past : List LineByte) (part : Part) (j : Feed R) : Type 0 where
+  pub is_part : IsPart terms part
+  pub number : part.past ≡ length past
+  pub open_records : j.follower.pairer.tail ≡ part.tail
+  pub follows : KeepsEnds terms.profile part.exchanges j.follower.tracker
+  pub no_reason : j.follower.pairer.reason ≡ None
+  pub same_rules : j.follower.pairer.rules ≡ line_rules terms
+  pub in_order : ForSome j.follower.pairer.last_time (λ time. time ≤ j.rows.last_time)
+  pub are_read : AreRead limit rows (past ++ part.records) j.rows
+
+-- whatever the parts of the records from here on are, these come before them
+abbrev pub GoesOn : Terms → Beginning → List BrokenPart → List LineByte → List LineByte → Type 0
+GoesOn terms beginning broken past records =
+    (others : List BrokenPart) (left : Rest) → AreParts terms (record { past = length past; records = records }) others left
+    → AreParts terms (judged_from beginning (past ++ records)) (broken ++ others) left
+
+-- the exchanges of these parts are among so many records
+pub record Fits (broken : List BrokenPart) (past : List LineByte) : Type 0 where
+  pub exchanges : length (exchanges_of broken) ≤ length past
+  pub records : records_in (exchanges_of broken) ≤ length past
+
+-- a part goes on
+pub record IsWithin {R : Type 0} (limit : ℕ) (terms : Terms) (beginning : Beginning) (rows : Option Rows) (h : History) (j : Feed R) : Type 0 where
+  pub past : List LineByte
+  pub in_part : InPart limit terms rows past h.part j
+  pub items : h.items ≡ past ++ h.part.records
+  pub none_besides : h.besides ≡ []
+  pub on : (more : List LineByte) → GoesOn terms beginning h.broken past (h.part.records ++ more)
+  pub fits : Fits h.broken past
+
+-- a record was read that breaks the part, and the late reply was told that it begins besides
+pub record IsAtBreak {R : Type 0} (limit : ℕ) (terms : Terms) (beginning : Beginning) (rows : Option Rows) (h : History) (b : Break) (j : Feed R) : Type 0 where
+  pub past : List LineByte
+  pub before : Feed R
+  pub in_part : InPart limit terms rows past h.part before
+  pub gives : GivesRecord before.rows b.record j.rows
+  pub spoils : Spoils before.follower j.follower b
+  pub items : h.items ≡ past ++ (h.part.records ++ b.record ∷ [])
+  pub late : TellsBesides terms.reply_limit (line_rules terms) h.part.tail b.record true
+  pub besides : h.besides ≡ late_reply (h.part.past + length h.part.records + 1) h.part.tail b.record ∷ []
+  pub on : (more : List LineByte) → GoesOn terms beginning h.broken past (h.part.records ++ b.record ∷ more)
+  pub fits : Fits h.broken past
+
+-- a part broke at the record that was read last, behind these
+pub record IsBehind {R : Type 0} (limit : ℕ) (terms : Terms) (beginning : Beginning) (rows : Option Rows) (h : History) (b : Break) (j : Feed R) : Type 0 where
+  pub past : List LineByte
+  pub before : Progress R
+  pub are_read : AreRead limit rows past before
+  pub gives : GivesRecord before b.record j.rows
+  pub items : h.items ≡ past ++ b.record ∷ []
+  pub last : (front : List BrokenPart) × (part : BrokenPart) × (h.broken ≡ front ++ part ∷ []) × (part.reason ≡ b.reason) × (number_of part ≡ j.rows.given)
+  pub none_told : h.part ≡ no_part (rest_after (length past) b.reason b.record []).past
+  pub none_besides : h.besides ≡ []
+  pub on : (after : List LineByte) (others : List BrokenPart) (left : Rest) → AreParts terms (rest_after (length past) b.reason b.record after) others left
+      → AreParts terms (judged_from beginning (past ++ b.record ∷ after)) (h.broken ++ others) left
+  pub fits : Fits h.broken past
+
+abbrev pub StandsAt : {R : Type 0} → ℕ → Terms → Beginning → Option Rows → History → Stage → Feed R → Type 0
+StandsAt limit terms beginning rows h stage.Fresh j = IsFresh limit terms j × (j.rows.rows ≡ rows) × (h ≡ nothing_told)
+StandsAt limit terms beginning rows h stage.Going j = IsWithin limit terms beginning rows h j
+StandsAt limit terms beginning rows h (stage.Besides b) j = IsAtBreak limit terms beginning rows h b j
+StandsAt limit terms beginning rows h (stage.Broken b) j = IsBehind limit terms beginning rows h b j
+StandsAt limit terms beginning rows h stage.Ended j = ⊥
+
+-- what was counted of it
+pub record AreCounted (h : History) (counts : Counts) : Type 0 where
+  pub breaks : counts.breaks ≡ length h.broken + late_replies (events_of h.broken) + late_replies (told_in h)
+  pub exchanges : counts.exchanges ≡ length (exchanges_of h.broken ++ h.part.exchanges)
+  pub records : counts.records ≡ records_in (exchanges_of h.broken ++ h.part.exchanges)
+
+-- what was counted so far
+abbrev pub totals_of : {R : Type 0} → Judging R → Totals
+totals_of j = record {
+  breaks = j.counts.breaks;
+  records = j.feed.rows.given;
+  exchanges = j.counts.exchanges;
+  passed_over = (j.feed.rows.given - j.counts.records) - length j.feed.follower.pairer.tail;
+  tail = length j.feed.follower.pairer.tail;
+}
+
+-- a judging of this scope, of a deck that is taken for this, stands behind this history of these rows
+pub record Stands {R : Type 0} (scope : Scope) (profile : Profile) (rows : Option Rows) (h : History) (j : Judging R) : Type 0 where
+  pub same_scope : j.scope ≡ scope
+  pub same_profile : j.profile.now ≡ profile
+  pub at : StandsAt (rows_allowed scope.extent) (terms_for scope.extent profile) scope.beginning rows h j.stage j.feed
+  pub counted : AreCounted h j.counts
+  pub bound : j.counts.breaks + left_of j ≤ 4 * greatest_limit + 1
+
+-- ---- the next event
+
+-- with the records that were read for it, of which nothing is told (`front`), the event is told, and the judging stands behind it
+pub record Advances {R : Type 0} (scope : Scope) (profile : Profile) (rows : Option Rows) (h : History) (e : Event) (j : Judging R) : Type 0 where
+  pub front : History
+  pub silent : IsSilent h front
+  pub reached : Reached (rows_allowed scope.extent) (terms_for scope.extent profile) scope.beginning rows front
+  pub next : History
+  pub tells : Tells (terms_for scope.extent profile) front e next j.feed
+  pub now_reached : Reached (rows_allowed scope.extent) (terms_for scope.extent profile) scope.beginning rows next
+  pub stands : Stands scope profile rows next j
+
+-- nothing more is told: the rows came to their end, or a judging up to the first break had told one
+abbrev pub Stops : {R : Type 0} → Scope → Profile → Option Rows → History → Judging R → Type 0
+Stops scope profile rows h j =
+    ((front : History) × IsSilent h front × ComesToEnd (rows_allowed scope.extent) (terms_for scope.extent profile) scope.beginning rows front j.feed
+    × AreCounted front j.counts × (j.stage ≡ stage.Ended))
+    ⊎ ((scope.extent ≡ FirstBreak) × (b : Break) × (j.stage ≡ stage.Broken b) × Stands scope profile rows h j)
+
+abbrev pub Next : {R : Type 0} → Scope → Profile → Option Rows → History → Result Event JudgeError → Judging R → Type 0
+Next scope profile rows h (Ok event.End) j = Stops scope profile rows h j
+Next scope profile rows h (Ok e) j = Advances scope profile rows h e j
+Next scope profile rows h (Err x) j =
+    (x ≡ OutOfMemory)
+    ⊎ ((front : History) × IsSilent h front × IsRefused (rows_allowed scope.extent) (terms_for scope.extent profile) scope.beginning rows front x j.feed)
+
+-- ---- how it is marked
+
+-- a count grows by so many, as long as it stays below `limit`
+abbrev pub GrowsBy : ℕ → ℕ → ℕ → ℕ → Type 0
+GrowsBy limit more old new = old + more < limit → new ≡ old + more
+
+-- a late reply is told of a record that breaks a rule, besides its break: where the reply limit is left aside, and the record begins one
+abbrev pub late_besides : Extent → Break → Bool
+late_besides FirstBreak b = false
+late_besides WholeCapture b = b.late
+
+-- what is told of a record that breaks a rule, and where the judging stands then
+abbrev pub MarksBreak : {R : Type 0} → Judging R → Break → Event → Stage → Type 0
+MarksBreak j b told at =
+    ((told ≡ event.Break b) × (at ≡ stage.Broken b) × (late_besides j.scope.extent b ≡ false))
+    ⊎ ((told ≡ event.LateReply b.record) × (at ≡ stage.Besides b) × (late_besides j.scope.extent b ≡ true))
+
+-- the feed came to this event, and this is told: where the judging stands then, and what it counts
+abbrev pub Marks : {R : Type 0} → Judging R → Event → Event → Judging R → Type 0
+Marks old event.Exchange told new =
+    (told ≡ event.Exchange) × (new.stage ≡ stage.Going) × (new.counts.breaks ≡ old.counts.breaks) × GrowsBy (2 ^ 32) 1 old.counts.exchanges new.counts.exchanges
+    × ((e : Exchange) → old.feed.follower.pairer.exchange ≡ Some e → GrowsBy (2 ^ 32) (records_of e) old.counts.records new.counts.records)
+Marks old (event.LateReply r) told new =
+    (told ≡ event.LateReply r) × (new.stage ≡ stage.Going) × GrowsBy (2 ^ 64) 1 old.counts.breaks new.counts.breaks
+    × (new.counts.exchanges ≡ old.counts.exchanges) × (new.counts.records ≡ old.counts.records)
+Marks old (event.Break b) told new =
+    MarksBreak old b told new.stage × GrowsBy (2 ^ 64) 1 old.counts.breaks new.counts.breaks
+    × (new.counts.exchanges ≡ old.counts.exchanges) × (new.counts.records ≡ old.counts.records)
+Marks old event.End told new = (told ≡ event.End) × (new.stage ≡ stage.Ended) × (new.counts ≡ old.counts)
+
+pub record IsMarked {R : Type 0} (old : Judging R) (e told : Event) (new : Judging R) : Type 0 where
+  pub feed : new.feed ≡ old.feed
+  pub scope : new.scope ≡ old.scope
+  pub profile : new.profile.now ≡ old.profile.now
+  pub marks : Marks old e told new
+
+-- the feed took up the next part, and this was told of it; or there was an error
+abbrev pub TakesUpMarked : {R : Type 0} → Break → Judging R → Result Event JudgeError → Judging R → Type 0
+TakesUpMarked {R} b old (Ok told) new =
+    (e : Event) × (mid : Feed R) × TakesUp (terms_for old.scope.extent old.profile.now) b old.feed (Ok e) mid × IsMarked (record old { feed = mid }) e told new
+TakesUpMarked b old (Err x) new = TakesUp (terms_for old.scope.extent old.profile.now) b old.feed (Err x) new.feed

@@ -1,0 +1,18 @@
+//! Where a judging stands between two events.
+
+use crate::event::Break;
+
+/// Where a judging stands between two events.
+#[derive(Clone, Copy, Debug, PartialEq, Eq)]
+pub enum Stage {
+    /// Nothing was judged yet.
+    Fresh,
+    /// A part goes on.
+    Going,
+    /// This record breaks the part; so far only the late reply was told that it begins besides.
+    Besides(Break),
+    /// A part broke.
+    Broken(Break),
+    /// The rows came to their end.
+    Ended,
+}

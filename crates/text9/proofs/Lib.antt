@@ -1,5 +1,0 @@
-pub mod PieceLemmas
-pub mod RowLemmas
-pub mod WordRow
-pub mod Words
-pub mod WriteLemmas

@@ -1,8 +1,0 @@
-use Rattle.std.proofs.Common.{append_assoc, rules}
-use Rattle.std.proofs.lemmas.Result.{IfOk-equal}
-use Rattle.text9.specs.ExchangeBytes.{text_of_exchange}
-use Rattle.text9.proofs.exchange_bytes.put_exchange.Goals as goal
-
-pub returns : goal.returns
-unfolding text_of_exchange
-returns c = search (rules, IfOk-equal, append_assoc)

@@ -1,7 +1,0 @@
-use Rattle.std.proofs.Common.{append_assoc}
-use Rattle.text9.specs.Bytes.{text_of_head}
-use Rattle.text9.proofs.explanation.asked.put_head.Goals as goal
-
-pub returns : goal.returns
-unfolding text_of_head
-returns c = simp append_assoc (simp append_assoc at (rw (c.in_ok-put_text.ensures, c.in_ok-put_hex.ensures, c.head-head.ensures) at c.put_hex-2.ensures))

@@ -1,6 +1,0 @@
-pub mod Bytes
-pub mod ExchangeBytes
-pub mod Explanation
-pub mod Row
-pub mod Working
-pub mod Writing

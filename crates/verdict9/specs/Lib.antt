@@ -1,4 +1,0 @@
-pub mod Error
-pub mod Lines
-pub mod OpenRecords
-pub mod Telling
