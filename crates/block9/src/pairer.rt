@@ -20,7 +20,7 @@ use crate::place::Place;
 use crate::reason::Reason;
 use crate::refusal::Refusal;
 use crate::replies::NamedReplies;
-use crate::rules::{Turned, meaning, reply_fault, sum_fault, turn};
+use crate::rules::{Turned, is_late, meaning, reply_fault, sum_fault, turn};
 use crate::tail::Tail;
 use capture9::{LineByte, Wire};
 use std::marker::Model;
@@ -144,9 +144,11 @@ impl<'a> Pairer<'a> {
                 return Ok(Step::Waiting);
             }
             Ok(Turned::Last) => {}
-            Err(refusal) => {
+            Err(reason) => {
+                // asked of a refused record alone, so that no other pays for the answer
+                let late = is_late(self.block, self.tail.as_slice(), line_byte);
                 self.passed_us = Some(line_byte.time_us);
-                return refuse(&mut self.reason, refusal);
+                return refuse(&mut self.reason, Refusal { reason, late });
             }
         }
         self.passed_us = Some(line_byte.time_us);

@@ -13,7 +13,6 @@ use crate::line_rules::{LineRules, ReplyLimit};
 use crate::open_block::OpenBlock;
 use crate::place::Place;
 use crate::reason::Reason;
-use crate::refusal::Refusal;
 use crate::reply::reply_time_valid_at;
 use crate::{BYTE_GAP_US, REPLY_LIMIT_US};
 use capture9::{LineByte, Wire};
@@ -29,30 +28,30 @@ pub(crate) enum Turned {
 }
 
 /// What the record makes of the block at the tail's end, or the first rule that it breaks by the wire, the time, the group or
-/// the gap, and whether it begins a late reply. Most records go on with a block on its wire: of them the gap alone is tested.
+/// the gap. Most records go on with a block on its wire: of them the gap alone is tested.
 #[inline(always)]
 pub(crate) fn turn(
     limit: ReplyLimit,
     block: OpenBlock,
     tail: &[LineByte],
     line_byte: LineByte,
-) -> Result<Turned, Refusal>
+) -> Result<Turned, Reason>
     requires stands { Stands tail.now block }
     requires later { last_time tail.now ≤ line_byte.time_us }
     ensures ok { IfOk result (λ turned. (early_fault limit (place_of tail.now) tail.now line_byte ≡ None) × IsTurned tail.now block line_byte turned) }
-    ensures err { IfErr result (λ refusal. (early_fault limit (place_of tail.now) tail.now line_byte ≡ Some refusal.reason) × (refusal.late ≡ is_late (place_of tail.now) tail.now line_byte)) }
+    ensures err { IfErr result (λ reason. early_fault limit (place_of tail.now) tail.now line_byte ≡ Some reason) }
 {
     if line_byte.wire != block.wire {
         let soon = is_soon(tail, line_byte);
         if let Some(reason) = wire_fault(block.place(), line_byte.wire, soon) {
-            return Err(Refusal::of(reason));
+            return Err(reason);
         }
     }
     if block.left == 0 {
         return begin(limit, block, tail, line_byte);
     }
     if line_byte.time_us - tail[tail.len() - 1].time_us > BYTE_GAP_US {
-        return Err(Refusal::of(Reason::ByteGap));
+        return Err(Reason::ByteGap);
     }
     match block.longer(line_byte.byte) {
         Some(longer) => Ok(Turned::Open {
@@ -64,41 +63,48 @@ pub(crate) fn turn(
 }
 
 /// What a record on the wire whose turn it is begins, or the rule that it breaks as the first one of its block: its time, its
-/// group. A late reply with a wrong group is refused for its group where the limit is left aside, and is late all the same.
+/// group.
 #[inline(always)]
 fn begin(
     limit: ReplyLimit,
     block: OpenBlock,
     tail: &[LineByte],
     line_byte: LineByte,
-) -> Result<Turned, Refusal>
+) -> Result<Turned, Reason>
     requires stands { Stands tail.now block }
     requires later { last_time tail.now ≤ line_byte.time_us }
     requires first { block.left ≡ 0 }
     requires turn { wire_fault (place_at block) line_byte.wire (is_soon tail.now line_byte) ≡ None }
     ensures ok { IfOk result (λ turned. (early_fault limit (place_of tail.now) tail.now line_byte ≡ None) × IsTurned tail.now block line_byte turned) }
-    ensures err { IfErr result (λ refusal. (early_fault limit (place_of tail.now) tail.now line_byte ≡ Some refusal.reason) × (refusal.late ≡ is_late (place_of tail.now) tail.now line_byte)) }
+    ensures err { IfErr result (λ reason. early_fault limit (place_of tail.now) tail.now line_byte ≡ Some reason) }
 {
     let late = match block.wire {
         Wire::Controller => false,
         Wire::Deck => !is_soon(tail, line_byte),
     };
     if late && limit == ReplyLimit::Counts {
-        return Err(Refusal {
-            reason: Reason::LateReply,
-            late,
-        });
+        return Err(Reason::LateReply);
     }
     if !allows(block.wire, line_byte.byte / 16) {
-        return Err(Refusal {
-            reason: Reason::WrongGroup,
-            late,
-        });
+        return Err(Reason::WrongGroup);
     }
     Ok(Turned::Open {
         block: block.begun(line_byte.byte),
         late,
     })
+}
+
+/// Whether the record begins a late reply, whatever rule it breaks: it comes on the deck's wire after a complete command, of whose
+/// reply no record came yet, and after the reply limit.
+pub(crate) fn is_late(block: OpenBlock, tail: &[LineByte], line_byte: LineByte) -> bool
+    requires stands { Stands tail.now block }
+    requires later { last_time tail.now ≤ line_byte.time_us }
+    ensures { result ≡ is_late (place_of tail.now) tail.now line_byte }
+{
+    match (block.place(), line_byte.wire) {
+        (Place::AfterCommand, Wire::Deck) => !is_soon(tail, line_byte),
+        _ => false,
+    }
 }
 
 /// Whether the record comes within the reply limit after the last one of the tail.

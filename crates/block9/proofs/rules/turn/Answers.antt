@@ -19,10 +19,7 @@ returns-then-line_byte-tail-gt-BYTE_GAP_US-clause-err c =
     let last = last_at c.args.tail.now (record { time_us = 0; wire = Controller; byte = 0 }) some in
     let gap : nat_le c.args.line_byte.time_us (last_time c.args.tail.now + byte_gap) ≡ false =
     let later = c.requires.later in let long = rw last at c.if-line_byte-tail-gt-BYTE_GAP_US.true in grind (arith, nat_tests) in
-    rw c.of-then-line_byte-tail-gt-BYTE_GAP_US.ensures (
-      gap_told c.args.limit c.args.tail.now c.args.line_byte c.args.block c.requires.stands turn c.if-block-eq0.false ∙ ap (λ (x : Bool). if x then None else Some ByteGap) gap,
-      sym (inside_not_late c.args.tail.now c.args.line_byte c.args.block c.requires.stands c.if-block-eq0.false),
-    )
+    gap_told c.args.limit c.args.tail.now c.args.line_byte c.args.block c.requires.stands turn c.if-block-eq0.false ∙ ap (λ (x : Bool). if x then None else Some ByteGap) gap
 
 pub returns-in-Some-longer-clause-ok : goal.returns-in-Some-longer-clause-ok
 returns-in-Some-longer-clause-ok c =

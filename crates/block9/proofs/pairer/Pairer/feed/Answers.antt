@@ -58,10 +58,10 @@ returns-clause-takes c = λ known.
 pub returns-in-Err-clause-refuses : goal.returns-in-Err-clause-refuses
 returns-in-Err-clause-refuses c = λ known.
     let later = fed_in_order c.self.inside.rules c.self.inside.tail _ c.self.inside.passed_us c.args.line_byte _ _ c.self.view_is c.in_default.is refl c.requires in
-    let told : early_fault c.self.inside.rules.reply_limit (place_of c.self.inside.tail) c.self.inside.tail c.args.line_byte ≡ Some c.in-Err.refusal.reason = (rw c.as_slice.ensures at c.in-Err.ensures.err).0 in
-    let late = tells_late c.self.inside.rules _ _ _ c.args.line_byte c.self.invariant c.in-Err.refusal.late (rw c.as_slice.ensures at c.in-Err.ensures.err).1 in
+    let told : early_fault c.self.inside.rules.reply_limit (place_of c.self.inside.tail) c.self.inside.tail c.args.line_byte ≡ Some c.in-Err.reason = rw c.as_slice.ensures at c.in-Err.ensures.err in
+    let late = tells_late c.self.inside.rules _ _ _ c.args.line_byte c.self.invariant c.is_late-late.result (rw c.as_slice-in-Err.ensures at c.is_late-late.ensures) in
     rw c.refuse.ensures.refused (
-      refuses c.self.inside.rules _ _ _ _ c.args.line_byte c.in-Err.refusal.reason c.self.view_is refl refl c.self.invariant.held later
+      refuses c.self.inside.rules _ _ _ _ c.args.line_byte c.in-Err.reason c.self.view_is refl refl c.self.invariant.held later
           (early_told c.self.inside.rules c.self.inside.tail c.args.line_byte _ told) refl (rw c.refuse.ensures.kept (fed_refused c.self.inside.rules c.self.inside.tail _ _)) c.refuse.ensures.kept
           (rw c.refuse.ensures.kept (completed_refused c.self.inside.rules c.self.inside.tail _ _ _)),
       late_of_view c.self.inside.rules _ _ _ c.self.view_is refl _ late,
