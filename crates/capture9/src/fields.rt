@@ -169,6 +169,7 @@ fn read_wire(field: &[u8]) -> Option<Wire>
 }
 
 /// The byte that a field tells: two hexadecimal digits, of either case.
+#[inline(always)] // else each loop over records costs each byte a call
 fn read_byte(field: &[u8]) -> Option<u8>
     ensures { result ≡ byte_in field.now }
 {

@@ -242,9 +242,10 @@ fn read_record<R: Read + Drop>(
         (λ unread. TakesFields unread found (fields_of row.new) (unread_records R.remaining reader.new))) }
     ensures refused { IfErr result (λ k. is_of_text k ≡ false) }
 {
-    match reader.read_byte_record(row) {
-        Ok(found) => Ok(found),
-        Err(error) => Err(kind_of(&error)),
+    // looked at where it stands: to take the error out would clear room for it before each record
+    match &reader.read_byte_record(row) {
+        Ok(found) => Ok(*found),
+        Err(error) => Err(kind_of(error)),
     }
 }
 
