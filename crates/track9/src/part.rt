@@ -158,8 +158,10 @@ impl<S: TimeSet> Part<S> {
         requires { (rate : ARate) × Whole rate self.now }
         ensures { PartKnows self.now register result }
     {
-        if self.remains() {
-            Some(self.entries(register).known())
+        let entries = self.entries(register);
+        // asked of the entries, which are none where no state is, since the pairs take longer
+        if entries.is_some() {
+            Some(entries.known())
         } else {
             None
         }
