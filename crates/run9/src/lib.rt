@@ -8,6 +8,7 @@
 mod fewest_hands;
 mod kept_by_hand;
 mod panel;
+mod search;
 mod way_back;
 
 pub use fewest_hands::states_of_run;

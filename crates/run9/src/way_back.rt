@@ -12,10 +12,11 @@ ghost use Rattle.run9.specs.declared.way_back.Mark.{Mark as AMark};
 ghost use Rattle.track9.specs.Following.{FollowsFrom, KeepsEnds, LeadsFrom};
 ghost use Rattle.track9.specs.Tracker.{Possible};
 
+use crate::search::Search;
 use block9::Exchange;
-use deck9::{Profile, State};
+use deck9::State;
 use sets25::{SharedSet, SpanSet, TimeSet};
-use std::alloc::{AllocError, Global};
+use std::alloc::AllocError;
 use track9::Tracker;
 
 /// A tracker, and how many of the exchanges come before it.
@@ -67,72 +68,70 @@ impl Pace {
     }
 }
 
-/// The states after each of these exchanges in a run that ends in a state of this tracker.
-pub(crate) fn states_to(
-    alloc: Global,
-    profile: &Profile,
-    exchanges: &[Exchange],
-    end: &Tracker<SpanSet>,
-    pace: Pace,
-) -> Result<Vec<State>, AllocError>
-    requires keeps { KeepsEnds profile.now exchanges.now end.now }
-    requires some { (s : AState) × Possible end.now.states s }
-    ensures { IfOk result (λ states. IsRun profile.now exchanges.now states.items) }
-{
-    let first = Tracker::of(alloc, profile)?;
-    let mut states = Vec::new(alloc);
-    let found = go_back(alloc, &first, exchanges, end, pace, &mut states);
-    drop(first);
-    match found {
-        Ok(_) => {}
-        Err(error) => return Err(error),
+impl Search<'_> {
+    /// The states after each of these exchanges in a run that ends in a state of this tracker.
+    pub(crate) fn states_to(
+        &self,
+        exchanges: &[Exchange],
+        end: &Tracker<SpanSet>,
+    ) -> Result<Vec<State>, AllocError>
+        requires keeps { KeepsEnds self.now.profile.now exchanges.now end.now }
+        requires some { (s : AState) × Possible end.now.states s }
+        ensures { IfOk result (λ states. IsRun self.now.profile.now exchanges.now states.items) }
+    {
+        let first = Tracker::of(self.alloc, self.profile)?;
+        let mut states = Vec::new(self.alloc);
+        let found = self.go_back(&first, exchanges, end, &mut states);
+        drop(first);
+        match found {
+            Ok(_) => {}
+            Err(error) => return Err(error),
+        }
+        states.reverse();
+        Ok(states)
     }
-    states.reverse();
-    Ok(states)
-}
 
-/// Goes back from some state of the tracker `end` through all of these exchanges to one of the states that the tracker before
-/// them keeps. The states after each exchange are put after `states`, the last one first.
-pub(crate) fn go_back<S: TimeSet>(
-    alloc: Global,
-    first: &Tracker<SharedSet>,
-    exchanges: &[Exchange],
-    end: &Tracker<S>,
-    pace: Pace,
-    states: &mut Vec<State>,
-) -> Result<State, AllocError>
-    requires follows { FollowsFrom first.now exchanges.now end.now }
-    requires some { (s : AState) × Possible end.now.states s }
-    ensures { IfOk result (λ s. (t : AState) × GoesBack first.now.profile (Possible first.now.states) exchanges.now t states.old.items states.new.items s) }
-{
-    let Some(state) = end.member() else {
-        unreachable!();
-    };
-    go_back_to(alloc, first, exchanges, state, pace, states)
-}
-
-/// Goes back from the state `end` through all of these exchanges.
-fn go_back_to(
-    alloc: Global,
-    first: &Tracker<SharedSet>,
-    exchanges: &[Exchange],
-    end: State,
-    pace: Pace,
-    states: &mut Vec<State>,
-) -> Result<State, AllocError>
-    requires { LeadsFrom first.now exchanges.now end }
-    ensures { IfOk result (GoesBack first.now.profile (Possible first.now.states) exchanges.now end states.old.items states.new.items) }
-{
-    let mut marks = Vec::new(alloc);
-    let mut state = end;
-    let mut at = exchanges.len();
-    while at > 0 {
-        at -= 1;
-        lead_up(first, &mut marks, exchanges, at, pace)?;
-        state = step_back_to_nearest(first, &marks, &exchanges[at], state, states)?;
-        drop(marks.pop());
+    /// Goes back from some state of the tracker `end` through all of these exchanges to one of the states that the tracker
+    /// before them keeps. The states after each exchange are put after `states`, the last one first.
+    pub(crate) fn go_back<S: TimeSet>(
+        &self,
+        first: &Tracker<SharedSet>,
+        exchanges: &[Exchange],
+        end: &Tracker<S>,
+        states: &mut Vec<State>,
+    ) -> Result<State, AllocError>
+        requires follows { FollowsFrom first.now exchanges.now end.now }
+        requires some { (s : AState) × Possible end.now.states s }
+        ensures { IfOk result (λ s. (t : AState) × GoesBack first.now.profile (Possible first.now.states) exchanges.now t states.old.items states.new.items s) }
+    {
+        let Some(state) = end.member() else {
+            unreachable!();
+        };
+        self.go_back_to(first, exchanges, state, states)
     }
-    Ok(state)
+
+    /// Goes back from the state `end` through all of these exchanges.
+    fn go_back_to(
+        &self,
+        first: &Tracker<SharedSet>,
+        exchanges: &[Exchange],
+        end: State,
+        states: &mut Vec<State>,
+    ) -> Result<State, AllocError>
+        requires { LeadsFrom first.now exchanges.now end }
+        ensures { IfOk result (GoesBack first.now.profile (Possible first.now.states) exchanges.now end states.old.items states.new.items) }
+    {
+        let mut marks = Vec::new(self.alloc);
+        let mut state = end;
+        let mut at = exchanges.len();
+        while at > 0 {
+            at -= 1;
+            lead_up(first, &mut marks, exchanges, at, self.pace)?;
+            state = step_back_to_nearest(first, &marks, &exchanges[at], state, states)?;
+            drop(marks.pop());
+        }
+        Ok(state)
+    }
 }
 
 /// Puts marks after the last one, until a tracker is the one before the exchange at `at`.

@@ -1,6 +1,6 @@
 -- The states are those of a run after the first exchanges, to one of them these lead, and the marks are before it.
 use Rattle.run9.proofs.Words.{AreMarks, drop, GoesBack, length, LeadsFrom, take, ◌≤◌}
-use Rattle.run9.proofs.way_back.go_back_to.Given as goal
+use Rattle.run9.proofs.search.Search.go_back_to.Given as goal
 
 abbrev pub invariant-loop-at : goal.invariant-loop-at
 invariant-loop-at l = record {

@@ -1,5 +1,5 @@
 use Rattle.run9.proofs.Words.{AreMarks, ap, arith, drop, FollowsFrom, GoesBack, last_mark, LeadsFrom, length, subst, take, tracked_by, ◌+◌, ◌-◌, ◌≡◌}
-use Rattle.run9.proofs.way_back.go_back_to.Goals as goal
+use Rattle.run9.proofs.search.Search.go_back_to.Goals as goal
 use Rattle.run9.proofs.WayBackSteps.{back-more, back-start, nearest_follows, no_marks, step_from, unmarked}
 
 pub loop-at-init : goal.loop-at-init

@@ -1,5 +1,5 @@
 use Rattle.run9.proofs.Words.{length, ◌-◌, ◌≤◌}
-use Rattle.run9.proofs.fewest_hands.starts_of_stretches.Given as goal
+use Rattle.run9.proofs.search.Search.starts_of_stretches.Given as goal
 
 abbrev pub invariant-loop-starts : goal.invariant-loop-starts
 invariant-loop-starts l = l.start ≤ length l.exchanges

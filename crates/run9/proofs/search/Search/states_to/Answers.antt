@@ -1,0 +1,13 @@
+use Rattle.run9.proofs.search.Search.states_to.Goals as goal
+use Rattle.run9.proofs.WayBackSteps.{back_run}
+use Rattle.run9.proofs.Words.{follows_ends}
+
+pub go_back-found-requires-clause-follows : goal.go_back-found-requires-clause-follows
+go_back-found-requires-clause-follows c =
+    follows_ends c.args.self.now.profile.now c.in_ok-first.first c.args.exchanges.now c.args.end.now c.in_ok-first.ensures.states c.in_ok-first.ensures.profile c.requires.keeps
+
+pub returns : goal.returns
+returns c =
+    let back = rw c.new-states.ensures.items at c.in-Ok.ensures in
+    rw c.reverse.ensures.items
+    (back_run c.args.self.now.profile.now c.in_ok-first.first c.args.exchanges.now back.0 c.in-Ok.field-0 _ c.in_ok-first.ensures.states c.in_ok-first.ensures.profile back.1)
