@@ -28,6 +28,7 @@ PARTS = [
         [("judge9", "judge_with_run_for"), ("deck9", "is_run_of"), ("report9", "write_run_for")],
         [("judge9", "judge_with_run"), ("deck9", "is_run"), ("report9", "write_run")],
     ),
+    ("The events of a judging", [("judge9", "Judging::new"), ("judge9", "Judging::next"), ("judge9", "Knowing::follow")], []),
     ("The program", [("program9", "run_program"), ("program9", "End::status"), ("program9", "Message::fmt")], []),
 ]
 PAGE = "docs/THEOREM.md"
@@ -196,7 +197,7 @@ class Sources:
         for path, text in self.code[crate]:
             blocks = [(text, 0)]
             if owner:
-                blocks = [(it[0], it.start()) for it in re.finditer(rf"^impl\b[^\n]*\b{owner} \{{.*?^\}}", text, re.S | re.M)]
+                blocks = [(it[0], it.start()) for it in re.finditer(rf"^impl\b[^\n]*\b{owner}(?:<[^\n]*>)? \{{.*?^\}}", text, re.S | re.M)]
             for block, start in blocks:
                 indent = "    " if owner else ""
                 found = re.search(rf"^{indent}(?:pub |pub\(crate\) )?fn {method}\b.*?\{{$", block, re.S | re.M)

@@ -1,6 +1,6 @@
 -- A cut that gets one record more.
 use Rattle.judge9.proofs.Words.{exchanges_after, LineRules, [], append-nil, arith, Cut, cut_joined, Does, Exchange, inl, inr, IsExchange, IsKept, IsTail, last_apart, LineByte, List, refl, Outcome}
-use Rattle.judge9.proofs.Words.{still_tail, subst, sym, tail_after, tail_no_exchange, ◌++◌, ◌∙◌, ◌∷◌, ◌⊎◌}
+use Rattle.judge9.proofs.Words.{ap, append_assoc, still_tail, subst, sym, tail_after, tail_no_exchange, ◌++◌, ◌∙◌, ◌∷◌, ◌≡◌, ◌⊎◌}
 
 -- a tail that grows
 pub cut-tail : (rules : LineRules) (p : List LineByte) (es : List Exchange) (t : List LineByte) (r : LineByte) → Cut rules p es t → IsTail rules (t ++ r ∷ [])
@@ -11,6 +11,11 @@ cut-tail rules p es t r h more = rw append-nil at (cut_joined rules p es [] t (r
 pub cut-exchange : (rules : LineRules) (p : List LineByte) (es : List Exchange) (t : List LineByte) (r : LineByte) (e : Exchange) → Cut rules p es t → IsExchange rules (t ++ r ∷ []) e
     → Cut rules (p ++ r ∷ []) (es ++ e ∷ []) []
 cut-exchange rules p es t r e h more = cut_joined rules p es (e ∷ []) t (r ∷ []) [] h (t ++ r ∷ [], [], sym (append-nil (t ++ r ∷ [])), more, (refl, IsTail.nothing refl))
+
+-- the tail is at the end
+pub tail_last : (rules : LineRules) (p : List LineByte) (es : List Exchange) (t : List LineByte) → Cut rules p es t → (front : List LineByte) × (p ≡ front ++ t)
+tail_last rules p [] t h = ([], h.0)
+tail_last rules p (e ∷ es) t h = let m = tail_last rules h.1 es t h.4 in (h.0 ++ m.0, h.2 ∙ ap (λ l. h.0 ++ l) m.1 ∙ sym (append_assoc h.0 m.0 t))
 
 -- what a record does
 pub cut-step : (rules : LineRules) (p : List LineByte) (es : List Exchange) (t : List LineByte) (r : LineByte) (s : Outcome) → Cut rules p es t → Does rules t r s

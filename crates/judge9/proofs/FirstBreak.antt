@@ -1,7 +1,7 @@
 -- The first break of a capture whose parts are judged with the limit left aside is the one at which its judging would end where it
 -- counts.
 use Rattle.judge9.proofs.Words.{[], ap, append-nil, append_assoc, AreEvents, AreParts, arith, BeginsLate, Bool, Breaks, BrokenPart, counting, Cut, cut_parted, Does, Event}
-use Rattle.judge9.proofs.Words.{events_by, Exchange, exchanges_after, last_time, false, HasRun, if◌then◌else◌, in_parts, inr, IsFirstBreak, IsPart}
+use Rattle.judge9.proofs.Words.{events_by, Exchange, exchanges_after, false, HasRun, if◌then◌else◌, in_parts, IsFirstBreak, IsPart}
 use Rattle.judge9.proofs.Words.{IsTail, late_replies, length, line_rules, LineByte, List, number_of, Outcome, pairing, Part, Profile, Reason}
 use Rattle.judge9.proofs.Words.{refl, Rest, Some, subst, sym, tail_after, tail_by_kept, TellsLate, true, ℕ, ◌++◌, ◌+◌, ◌∙◌, ◌∷◌, ◌≡◌}
 use Rattle.block9.proofs.ReasonLemmas as block
@@ -10,12 +10,11 @@ use Rattle.block9.specs.declared.line_rules.ReplyLimit.TheVariants.{Counts}
 use Rattle.capture9.specs.declared.line_byte.Wire.TheVariants.{Controller}
 use Rattle.std.proofs.lemmas.Bool.Decides.{nat_tests}
 use Rattle.judge9.specs.Parts.Event.{exchange, late_reply}
-use Rattle.judge9.proofs.CountingSteps.{cut_counts_all}
+use Rattle.judge9.proofs.CountingSteps.{cut_counts_all, late_aside, soon_now}
 use Rattle.judge9.proofs.CutSteps.{cut-step}
 use Rattle.judge9.proofs.LawLemmas.{cut_tail, first_of, tail_breaks}
-use Rattle.judge9.proofs.MovedBreak.{break_moved}
-use Rattle.judge9.proofs.MovedPart.{Along, blocks_same}
-use Rattle.judge9.proofs.MovedRecords.{alike_same}
+use Rattle.judge9.proofs.RetimedSteps.{break_retimed, next_of}
+use Rattle.judge9.proofs.RetimedRecords.{retimed_same}
 use Rattle.judge9.proofs.RunSteps.{run_less}
 
 module _ (profile : Profile) where
@@ -66,12 +65,6 @@ module _ (profile : Profile) where
       → events ≡ front ++ late_reply at asked r ∷ more → late_replies front ≡ 0 → FoundLate p past es t records front at asked r
   find_late p past es t [] events [] more at asked r cut are split none = absurd (let e = sym are ∙ split in cc)
   find_late p past es t [] events (f ∷ front) more at asked r cut are split none = absurd (let e = sym are ∙ split in cc)
-  find_late p past es t (x ∷ records) events front more at asked r cut (Outcome.leaves_open, rest, done, are, is) split none =
-      behind p past es t x records front at asked r Outcome.leaves_open done (find_late (p ++ x ∷ []) (past + 1) es (t ++ x ∷ []) records rest front more at asked r
-      (cut-step (line_rules (in_parts profile)) p es t x Outcome.leaves_open cut done) are (sym is ∙ split) none)
-  find_late p past es t (x ∷ records) events front more at asked r cut (Outcome.asks, rest, done, are, is) split none =
-      behind p past es t x records front at asked r Outcome.asks done (find_late (p ++ x ∷ []) (past + 1) es (t ++ x ∷ []) records rest front more at asked r
-      (cut-step (line_rules (in_parts profile)) p es t x Outcome.asks cut done) are (sym is ∙ split) none)
   find_late p past es t (x ∷ records) events [] more at asked r cut (Outcome.answers_late, rest, done, are, is) split none =
       let same = sym is ∙ split in
       let number : past + 1 ≡ at = cc in
@@ -90,6 +83,9 @@ module _ (profile : Profile) where
       subst (λ (f : Event). FoundLate p past es t (x ∷ records) (f ∷ front) at asked r) first (behind p past es t x records front at asked r (Outcome.completes e) done
       (find_late (p ++ x ∷ []) (past + 1) (es ++ e ∷ []) [] records rest front more at asked r (cut-step (line_rules (in_parts profile)) p es t x (Outcome.completes e) cut done)
       are more_is none))
+  find_late p past es t (x ∷ records) events front more at asked r cut (o, rest, done, are, is) split none =
+      behind p past es t x records front at asked r o done (find_late (p ++ x ∷ []) (past + 1) es (t ++ x ∷ []) records rest front more at asked r
+      (cut-step (line_rules (in_parts profile)) p es t x o cut done) are (sym is ∙ split) none)
 
   -- a late reply of the first part, before which none is late
   pub first_late : (items after : List LineByte) (part : Part) (front more : List Event) (at : ℕ) (asked : List LineByte) (r : LineByte) → items ≡ part.records ++ after
@@ -125,15 +121,14 @@ module _ (profile : Profile) where
       cut : Cut (line_rules (counting profile)) p b.part.exchanges b.part.tail
       cut = cut_counts_all profile b.part.past p b.part.exchanges b.part.tail b.part.events part.cut part.are_events none
 
-      -- the records at their own times
-      along : Along profile Counts p b.part.exchanges b.part.tail p b.part.exchanges b.part.tail (last_time b.part.tail) (last_time b.part.tail)
-      along = record { cut = part.cut; moved = cut; exchanges = blocks_same b.part.exchanges; tails = alike_same b.part.tail; times = λ some. (refl, refl) }
-
       by : (late : Bool) → TellsLate (line_rules (in_parts profile)) b.part.tail b.breaking late
           → Breaks (counting profile) p b.breaking (if late then Reason.LateReply else b.reason)
       by true late = late_breaks p b.part.exchanges b.part.tail b.breaking cut part.run late
-      by false early = break_moved profile Counts p b.part.exchanges b.part.tail p b.part.exchanges b.part.tail (last_time b.part.tail) (last_time b.part.tail) 0 b.breaking
-          b.breaking b.reason along (record { wire = refl; byte = refl; as_it_did = λ none. refl; at_limit = λ some. absurd (some refl); in_time = inr (early, refl) }) breaks
+      by false early =
+          let t = b.part.tail in
+          break_retimed profile Counts p b.part.exchanges t p b.part.exchanges t b.breaking b.breaking b.reason part.cut cut refl
+          (next_of t t b.breaking b.breaking refl (retimed_same (t ++ b.breaking ∷ []))) (soon_now profile t b.breaking (cut_tail (line_rules (counting profile)) p b.part.exchanges t cut) early)
+          (λ late. early (late_aside profile t b.breaking late.1)) breaks
 
   pub first_break : (items : List LineByte) (b : BrokenPart) (broken : List BrokenPart) (left : Rest)
       → AreParts (in_parts profile) (record { past = 0; records = items }) (b ∷ broken) left → late_replies b.part.events ≡ 0

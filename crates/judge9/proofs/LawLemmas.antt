@@ -1,6 +1,6 @@
 -- The laws on lists of records that keep the rules, on answers, on judging with hands, and on reasons.
 use Rattle.judge9.proofs.Words.{Beginning, IsAnswerFrom, judged_rows, moved_by, passed_before, Terms, LineRules, line_rules, counting, [], Answer, ap, append-nil, AreCounts, append_assoc, Applies, arith, Breaks, cases_lt, Cut, cut_once, cut_parted, drop, Exchange, exchange_kept}
-use Rattle.judge9.proofs.Words.{first_before_last, first_holds, first_once, Profile, HasRun, Holds, inl, inr, IsAnswer, IsExchange, IsFirst, IsFirstBreak, IsKept, IsOk, IsReason}
+use Rattle.judge9.proofs.Words.{first_before_last, first_holds, first_once, Profile, HasRun, Holds, inl, inr, IsAnswer, IsExchange, IsFirst, IsFirstBreak, IsKept, IsOk, IsPart, IsReason, Part}
 use Rattle.judge9.proofs.Words.{IsTail, kept_by_tail, kept_less, last_is_first, last_time, last_time-append, length, length-append, length_push, LineByte, List, None, Option}
 use Rattle.judge9.proofs.Words.{order, pairing, quiet_kept, rank, rank_low, rank_once, Reason, refl, Rows, same_parts, Some, subst, sym, take, take-append-drop, take-append-le}
 use Rattle.judge9.proofs.Words.{take-append_seam, Verdict, ℕ, ◌++◌, ◌<◌, ◌∙◌, ◌∷◌, ◌≡◌, ◌≢◌, ◌≤◌}
@@ -16,6 +16,10 @@ cut_tail rules p (e ∷ es) t h = cut_tail rules h.1 es t h.4
 -- records that keep all rules keep those of pairing
 pub kept_of : (terms : Terms) (p : List LineByte) → IsOk terms p → IsKept (line_rules terms) p
 kept_of terms p ok = record { exchanges = ok.exchanges; tail = ok.tail; cut = ok.cut }
+
+-- so does a part
+pub part_ok : {terms : Terms} {part : Part} → IsPart terms part → IsOk terms part.records
+part_ok {part = part} is = record { exchanges = part.exchanges; tail = part.tail; cut = is.cut; run = is.run }
 
 -- what holds of a list without its last element where it holds of the list holds of each first part
 pub first_of : {X : Type 0} (P : List X → Type 0) → ((p : List X) (x : X) → P (p ++ x ∷ []) → P p) → (q p : List X) → P (p ++ q) → P p

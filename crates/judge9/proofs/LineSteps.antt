@@ -1,6 +1,6 @@
 -- How many records exchanges have, and what is written after other bytes.
-use Rattle.judge9.proofs.Words.{LineRules, records_in, [], ap, append-nil, append_known, Appends, Appends-trans, arith, Cut, Exchange, IsExchange, length, length-append, length-map, LineByte, List, None}
-use Rattle.judge9.proofs.Words.{Option, records_of, refl, Some, subst, ℕ, ◌++◌, ◌+◌, ◌*◌, ◌∷◌, ◌≡◌, ◌≤◌, length_push}
+use Rattle.judge9.proofs.Words.{LineRules, records_in, [], ap, append-nil, Appends, Appends-trans, arith, Cut, Exchange, IsExchange, length, length-append, length-map, LineByte, List}
+use Rattle.judge9.proofs.Words.{Option, records_of, subst, ℕ, ◌++◌, ◌+◌, ◌*◌, ◌∷◌, ◌≡◌, ◌≤◌, length_push}
 
 -- ---- how many records exchanges have
 
@@ -40,7 +40,3 @@ records_joined (e ∷ es) fs = omega (arith, records_joined es fs)
 
 pub none_after : (old now new : Option (List ℕ)) (text : List ℕ) → Appends old now text → Appends now new [] → Appends old new text
 none_after old now new text h k = subst (λ t. Appends old new t) (append-nil text) (Appends-trans old now new text [] h k)
-
-pub appended : (now : Option (List ℕ)) (line : List ℕ) → Appends now (append_known now line) line
-appended None line = tt
-appended (Some bytes) line = refl

@@ -1,11 +1,11 @@
--- How a judging is marked with what its feed came to: whether it can go on, how much is left to do, and where it stands.
+-- How a judging is marked with what its feed came to: what is counted, what is told, and where it stands.
 use Rattle.block9.proofs.FeedLemmas.{exchange_not_late}
 use Rattle.block9.specs.declared.line_rules.ReplyLimit.{ReplyLimit}
 use Rattle.block9.specs.declared.line_rules.ReplyLimit.TheVariants.{Counts, LeftAside}
-use Rattle.judge9.proofs.Words.{append-nil, Beginning, BeginsLate, Bool, Follower, GivesRecord, InPart, IsAtBreak, IsHistory, LineRules, Part, Spoils, Terms, ◌^◌}
-use Rattle.judge9.proofs.Words.{[], Advances, ap, arith, AreCounted, Break, BrokenPart, CanGoOn, Err, Event, events_in, events_of, Exchange, exchanges_of, false, Feed, greatest_limit, GrowsBy, History, inl, inr, late_besides, IsMarked, IsSilent}
-use Rattle.judge9.proofs.Words.{IsWithin, JudgeError, late_replies, left_of, length, length-append, length_push, LineByte, line_rules, List, MarksBreak, Next, Ok, Option, Profile, records_in, records_of, refl, reply_limit_of, Result, Rows, rows_allowed, ShowsExchange}
-use Rattle.judge9.proofs.Words.{Stands, Stops, subst, sym, takes_up_at, TellsBesides, TellsBreak, TellsExchange, TellsLateReply, terms_for, told_in, true, Turn, Turned, weight, ℕ, ◌*◌, ◌++◌, ◌+◌, ◌-◌, ◌<◌, ◌∙◌, ◌∷◌, ◌≡◌, ◌≢◌, ◌≤◌, ◌⊎◌}
+use Rattle.judge9.proofs.Words.{append-nil, Beginning, BeginsLate, Bool, Follower, InPart, IsAtBreak, IsHistory, LineRules, Part, Spoils, Terms, ◌^◌}
+use Rattle.judge9.proofs.Words.{[], Advances, ap, arith, AreCounted, Break, BrokenPart, Err, Event, events_in, events_of, Exchange, exchanges_of, false, Feed, greatest_limit, GrowsBy, History, inl, inr, late_besides, IsMarked, IsSilent}
+use Rattle.judge9.proofs.Words.{IsWithin, JudgeError, late_replies, left_of, length, length-append, length_push, LineByte, line_rules, List, MarksBreak, Next, Ok, Option, Profile, records_in, records_of, refl, reply_limit_of, Result, Rows, rows_allowed}
+use Rattle.judge9.proofs.Words.{Stands, Stops, subst, sym, TellsBesides, TellsBreak, TellsExchange, TellsLateReply, terms_for, told_in, true, Turn, ℕ, ◌*◌, ◌++◌, ◌+◌, ◌<◌, ◌∙◌, ◌∷◌, ◌≡◌, ◌≢◌, ◌≤◌, ◌⊎◌}
 use Rattle.judge9.specs.declared.judging.Judging.{Judging}
 use Rattle.judge9.specs.declared.stage.Stage.TheVariants.{the_data as Stage}
 use Rattle.report9.specs.declared.verdict.Extent.TheVariants.{the_data as Extent}
@@ -15,97 +15,8 @@ use Rattle.judge9.proofs.Coming.{Arrives, Came}
 use Rattle.judge9.proofs.EventSteps.{late_joined}
 use Rattle.judge9.proofs.HistorySteps.{allowed, events_push, exchanges_push, fit, given_here, history_at}
 use Rattle.judge9.proofs.LineSteps.{records_joined}
-use Rattle.judge9.proofs.Measure.{Behind, IsFirstOn, IsOn, small}
-use Rattle.judge9.proofs.SoFar.{later, number_on, read_on, step_on}
+use Rattle.judge9.proofs.SoFar.{number_on, read_on, step_on}
 use Rattle.judge9.proofs.Stepping.{ahead_of, behind, end_came, exchange_came, gives_break, history, late_came, reached_behind, refusal_came, stands_behind, tells_break}
-
--- ---- whether it can go on
-
-pub shows_at : {R : Type 0} {front k : Feed R} → Turned front (Ok Turn.Exchange) k → ShowsExchange k
-shows_at t = let c = t.1.took in ((c.exchange, c.takes.exchange), c.observes.remains.0 refl)
-
-pub shows_if : {R : Type 0} (k : Feed R) (turn : Turn) → Behind turn k → turn ≡ Turn.Exchange → ShowsExchange k
-shows_if k turn b is = let t = rw is at b.1 in shows_at t
-
-module _ {R : Type 0} (old new : Judging R) {mid : Feed R} {told : Turn} where
-  pub ready : (turn : Turn) → IsMarked (record old { feed = mid }) turn told new → Behind turn mid → CanGoOn new.stage new.feed
-  ready Turn.Exchange m b = let c = b.1.1.took in rw (m.marks.1, m.feed) (c.takes.reason, λ x e. later b.1.1.gives c.takes x e)
-  ready (Turn.LateReply r) m b = let c = b.1.1.took.1 in rw (m.marks.1, m.feed) (c.takes.reason, λ x e. later b.1.1.gives c.takes x e)
-  ready (Turn.Break x) m b = by m.marks.0
-    where
-      gives : GivesRecord b.0.rows x.record new.feed.rows
-      gives = rw m.feed (subst (λ r. GivesRecord b.0.rows r mid.rows) (sym b.1.1.took.0) b.1.1.gives)
-
-      by : MarksBreak (record old { feed = mid }) x told new.stage → CanGoOn new.stage new.feed
-      by (inl (is, at, late)) = rw at (b.0.rows, gives)
-      by (inr (is, at, late)) = rw at (b.0.rows, gives)
-  ready Turn.End m b = rw m.marks.1 tt
-
-  pub shows : (turn : Turn) → IsMarked (record old { feed = mid }) turn told new → Behind turn mid → told ≡ Turn.Exchange → ShowsExchange new.feed
-  shows Turn.Exchange m b is = rw m.feed (shows_at b.1)
-  shows (Turn.LateReply r) m b is = absurd (let other = m.marks.0 in cc)
-  shows (Turn.Break x) m b is = absurd (by m.marks.0)
-    where
-      by : MarksBreak (record old { feed = mid }) x told new.stage → ⊥
-      by (inl (same, at, late)) = cc
-      by (inr (same, at, late)) = cc
-  shows Turn.End m b is = absurd (let other = m.marks.0 in cc)
-
-  -- a break is told where the judging stands behind it
-  pub broke : (turn : Turn) → IsMarked (record old { feed = mid }) turn told new → (b : Break) → told ≡ Turn.Break b → new.stage ≡ Stage.Broken b
-  broke Turn.Exchange m b is = absurd (let other = m.marks.0 in cc)
-  broke (Turn.LateReply r) m b is = absurd (let other = m.marks.0 in cc)
-  broke (Turn.Break x) m b is = by m.marks.0
-    where
-      by : MarksBreak (record old { feed = mid }) x told new.stage → new.stage ≡ Stage.Broken b
-      by (inl (same, at, late)) = let one : x ≡ b = cc in rw (sym one) at
-      by (inr (same, at, late)) = absurd (let no = sym same ∙ is in cc)
-  broke Turn.End m b is = absurd (let other = m.marks.0 in cc)
-
-  -- ---- how much is left to do
-
-  -- the end is told as the end
-  ends : (turn : Turn) → IsMarked (record old { feed = mid }) turn told new → turn ≡ Turn.End → told ≡ Turn.End
-  ends Turn.End m is = m.marks.0
-  ends Turn.Exchange m is = absurd (cc is)
-  ends (Turn.LateReply r) m is = absurd (cc is)
-  ends (Turn.Break b) m is = absurd (cc is)
-
-  pub less : (turn : Turn) → IsMarked (record old { feed = mid }) turn told new → (given : ℕ) → IsOn given turn mid → (n : ℕ) → 4 * (greatest_limit - given) + 1 ≤ n
-      → (told ≡ Turn.End) ⊎ (left_of new < n)
-  less turn m given (inl end) n is = inl (ends turn m end)
-  less turn m given (inr (on, few)) n is =
-      inr (omega (arith, on, few, small new.stage, ap (λ (f : Feed R). f.rows.given) m.feed, is))
-
-  -- with the first record of a part
-  light : (turn : Turn) → IsMarked (record old { feed = mid }) turn told new → ((b : Break) → turn ≡ Turn.Break b → (takes_up_at b.reason ≡ false) × (b.late ≡ false))
-      → weight new.stage ≤ 2
-  light Turn.Exchange m other = rw m.marks.1 (omega arith)
-  light (Turn.LateReply r) m other = rw m.marks.1 (omega arith)
-  light (Turn.Break b) m other = by m.marks.0
-    where
-      in_time : (extent : Extent) → late_besides extent b ≡ false
-      in_time Extent.FirstBreak = refl
-      in_time Extent.WholeCapture = (other b refl).1
-
-      by : MarksBreak (record old { feed = mid }) b told new.stage → weight new.stage ≤ 2
-      by (inl (is, at, late)) = rw (at, (other b refl).0) (omega arith)
-      by (inr (is, at, late)) = absurd (let no = sym (in_time old.scope.extent) ∙ late in cc)
-  light Turn.End m other = rw m.marks.1 (omega arith)
-
-  going : (turn : Turn) → IsMarked (record old { feed = mid }) turn told new → ((b : Break) → turn ≢ Turn.Break b) → weight new.stage ≤ 2
-  going Turn.Exchange m other = rw m.marks.1 (omega arith)
-  going (Turn.LateReply r) m other = rw m.marks.1 (omega arith)
-  going (Turn.Break b) m other = absurd (other b refl)
-  going Turn.End m other = rw m.marks.1 (omega arith)
-
-  pub less_first : (turn : Turn) → IsMarked (record old { feed = mid }) turn told new → (given : ℕ) → IsFirstOn given turn mid → (n : ℕ) → 4 * (greatest_limit - (given + 1)) + 3 ≤ n
-      → (told ≡ Turn.End) ⊎ (left_of new < n)
-  less_first turn m given (inl on) n is = less turn m (given + 1) on n (omega (arith, is))
-  less_first turn m given (inr (inl (same, few, other))) n is =
-      inr (omega (arith, same, light turn m other, ap (λ (f : Feed R). f.rows.given) m.feed, is))
-  less_first turn m given (inr (inr (same, few, other))) n is =
-      inr (omega (arith, same, going turn m other, ap (λ (f : Feed R). f.rows.given) m.feed, is))
 
 -- ---- a late reply besides
 
@@ -322,7 +233,7 @@ module _ {R : Type 0} {scope : Scope} {profile : Profile} {rows : Option Rows} {
         }
 
     told_besides : {b : Break} → Came (rows_allowed scope.extent) (terms_for scope.extent profile) scope.beginning rows h (Ok (Turn.Break b)) mid
-        → IsMarked (record old { feed = mid }) (Turn.Break b) told new → (told ≡ Turn.LateReply b.record) × (new.stage ≡ Stage.Besides b) × (late_besides old.scope.extent b ≡ true)
+        → IsMarked (record old { feed = mid }) (Turn.Break b) told new → (told ≡ Turn.LateReply b.record) × (new.stage ≡ Stage.LateTold b) × (late_besides old.scope.extent b ≡ true)
         → left_of new < left_of old → Advances scope profile rows h (Turn.LateReply b.record) new
     told_besides {b = b} a m (is, at, late) less =
         let items = a.past ++ (a.part.records ++ b.record ∷ []) in
@@ -401,7 +312,7 @@ refused_arrived scope profile rows h k x (inr a) = refusal_came a
 
 -- behind the late reply that a record begins comes its break
 pub told_behind : {R : Type 0} {scope : Scope} {profile : Profile} {rows : Option Rows} {h : History} {old : Judging R} (new : Judging R) (b : Break) → Stands scope profile rows h old
-    → old.stage ≡ Stage.Besides b → new.stage ≡ Stage.Broken b → new.feed ≡ old.feed → new.scope ≡ old.scope → new.profile ≡ old.profile
+    → old.stage ≡ Stage.LateTold b → new.stage ≡ Stage.Broken b → new.feed ≡ old.feed → new.scope ≡ old.scope → new.profile ≡ old.profile
     → GrowsBy (2 ^ 64) 1 old.counts.breaks new.counts.breaks → (new.counts.exchanges ≡ old.counts.exchanges) × (new.counts.records ≡ old.counts.records) → left_of new < left_of old
     → Advances scope profile rows h (Turn.Break b) new
 told_behind {scope = scope} {profile = profile} {rows = rows} {h = h} {old = old} new b s was at same_feed same_scope same_profile breaks counts less = record {
@@ -435,10 +346,3 @@ told_behind {scope = scope} {profile = profile} {rows = rows} {h = h} {old = old
 
     tells : TellsBreak (terms_for scope.extent profile) h (behind h.broken here.past h.part b true) b old.feed
     tells = tells_break scope.beginning h.broken b true here.in_part here.gives here.spoils here.late here.on here.fits h refl refl here.besides
-
--- and less is left to do then
-pub behind_less : {R : Type 0} (old new : Judging R) (b : Break) → old.stage ≡ Stage.Besides b → new.stage ≡ Stage.Broken b → new.feed.rows.given ≡ old.feed.rows.given → left_of new < left_of old
-behind_less old new b was at same =
-    let before : weight old.stage ≡ 4 = rw was refl in
-    let after : weight new.stage ≤ 3 = rw at (grind arith) in
-    omega (arith, same, before, after)

@@ -5,7 +5,7 @@ use Rattle.block9.specs.Reason.{Holds, IsAnswered, IsOpen as IsOpenBlock, order}
 use Rattle.judge9.specs.declared.stage.Stage.TheVariants.{the_data as Stage}
 use Rattle.std.specs.Bool.{MatchBool}
 use Rattle.std.proofs.Common.{◌&&◌}
-use Rattle.judge9.proofs.Words.{Beginning, begins_next_part, BeginsAt, CaptureError, Comes, ComesFirst, ComesTo, GivesEnd, GivesRefusal, IsFresh, KnowsNothing, last_of, may_begin, None, Progress, refusal_of, Resumes, ResumesAfter, sym, TakesUp, ◌≢◌}
+use Rattle.judge9.proofs.Words.{Beginning, begins_next_part, BeginsAt, CaptureError, Comes, ComesFirst, ComesTo, GivesEnd, GivesRefusal, IsFresh, KnowsNothing, last_of, may_begin, None, Progress, refusal_of, Resumes, ResumesAfter, sym, TakesUp}
 use Rattle.judge9.proofs.PartSteps.{none_fewer}
 use Rattle.judge9.proofs.TurnSteps.{none_lost, turned_by}
 
@@ -45,7 +45,7 @@ first_in_time b nil (inr none) = none.2
 pub small : (at : Stage) → weight at ≤ 4
 small Stage.Fresh = omega arith
 small Stage.Going = omega arith
-small (Stage.Besides b) = omega arith
+small (Stage.LateTold b) = omega arith
 small (Stage.Broken b) = grind arith
 small Stage.Ended = omega arith
 
@@ -73,24 +73,23 @@ on_come j k turn c = (by (one_given c.front k turn c.turned), (c.front, c.turned
     by (inl end) = inl end
     by (inr (given, few)) = inr (omega (arith, given, none_lost c), few)
 
--- the first record of a part, which was read behind so many: it is the only one, and breaks the part, or it is not
+-- the first record of a part, which was read behind so many, and others; or that one alone, at which no part would be taken up again
 abbrev pub IsFirstOn : {R : Type 0} → ℕ → Turn → Feed R → Type 0
 IsFirstOn given turn k =
     IsOn (given + 1) turn k
     ⊎ ((k.rows.given ≡ given + 1) × (k.rows.given ≤ greatest_limit) × ((b : Break) → turn ≡ Turn.Break b → (takes_up_at b.reason ≡ false) × (b.late ≡ false)))
-    ⊎ ((k.rows.given ≡ given + 1) × (k.rows.given ≤ greatest_limit) × ((b : Break) → turn ≢ Turn.Break b))
 
 at_once : {R : Type 0} (terms : Terms) (j k : Feed R) (first : LineByte) (turn : Turn) → KnowsNothing terms j.follower → Comes j k first (Some turn) → IsFirstOn j.rows.given turn k
 at_once terms j k first Turn.End knows c = absurd c.took
-at_once terms j k first Turn.Exchange knows c = inr (inr (c.gives.given, c.gives.numbered, λ b q. cc))
-at_once terms j k first (Turn.LateReply x) knows c = inr (inr (c.gives.given, c.gives.numbered, λ b q. cc))
+at_once terms j k first Turn.Exchange knows c = inr (c.gives.given, c.gives.numbered, λ b q. absurd (cc q))
+at_once terms j k first (Turn.LateReply x) knows c = inr (c.gives.given, c.gives.numbered, λ b q. absurd (cc q))
 at_once terms j k first (Turn.Break b) knows c =
     let nil : j.follower.pairer.tail ≡ [] = rw knows.fed_nothing refl in
-    inr (inl (
+    inr (
       c.gives.given,
       c.gives.numbered,
       λ d q. let same : b ≡ d = cc in rw (sym same) (first_break (line_rules terms) b nil (rw knows.fed_nothing refl) c.took.1, first_in_time b nil c.took.1),
-    ))
+    )
 
 pub on_first : {R : Type 0} (terms : Terms) (before : Progress R) (first : LineByte) (turn : Turn) (k : Feed R) → Resumes terms before first (Ok turn) k
     → IsFirstOn before.given turn k × Behind turn k
@@ -120,8 +119,7 @@ on_passed {R = R} terms last old turn k h = by h.then
     on : IsFirstOn h.mid.given turn k → IsOn old.given turn k
     on (inl (inl end)) = inl end
     on (inl (inr (given, few))) = inr (omega (arith, given, more), few)
-    on (inr (inl (given, few, other))) = inr (omega (arith, given, more), few)
-    on (inr (inr (given, few, other))) = inr (omega (arith, given, more), few)
+    on (inr (given, few, other)) = inr (omega (arith, given, more), few)
 
     by : ((first : LineByte) × (may_begin (last_of last h.passed) first ≡ true) × Resumes terms h.mid first (Ok turn) k)
         ⊎ ((let r : Result Turn JudgeError = Ok turn in r) ≡ Ok Turn.End) × GivesEnd h.mid k.rows × KnowsNothing terms k.follower

@@ -1,22 +1,19 @@
 -- The parts of a capture where more records come before them: the same with other numbers.
-use Rattle.judge9.proofs.Words.{[], ap, AreEvents, AreParts, AreTotals, arith, begins_next_part, Beginning, Bool, BrokenPart, Event, events_by, events_in, events_of, Exchange, exchanges_of}
-use Rattle.judge9.proofs.Words.{false, from_command, if◌then◌else◌, in_parts, inl, inr, IsPart, judged_from, late_replies, length, LineByte, LineRules, List, may_begin, number_of, Option}
-use Rattle.judge9.proofs.Words.{Outcome, Part, Profile, Reason, refl, Rest, rest_after, Some, subst, true, ℕ, ◌++◌, ◌+◌, ◌∙◌, ◌∷◌, ◌≡◌, ◌⊎◌}
+use Rattle.judge9.proofs.Words.{[], ap, AreEvents, AreParts, AreTotals, arith, begins_next_part, Bool, BrokenPart, Event, events_by, events_in, events_of, Exchange, exchanges_of}
+use Rattle.judge9.proofs.Words.{false, from_command, if◌then◌else◌, in_parts, IsPart, late_replies, length, length-map, LineByte, LineRules, List, may_begin, number_of, Option}
+use Rattle.judge9.proofs.Words.{Outcome, Part, Profile, Reason, refl, Rest, rest_after, Some, subst, sym, true, ℕ, ◌++◌, ◌+◌, ◌∙◌, ◌∷◌, ◌≡◌}
 use Rattle.std.specs.Prelude.{map}
 use Rattle.report9.specs.declared.totals.Totals.{Totals}
 use Rattle.judge9.specs.Renumbered.{renumbered_break, renumbered_event, renumbered_part, renumbered_rest, renumbered_totals}
 use Rattle.judge9.specs.Parts.Event.{exchange, late_reply}
-use Rattle.judge9.proofs.EventSteps.{late_joined}
-use Rattle.judge9.proofs.PartSteps.{AreJudged, ArePassed, judged_more}
+use Rattle.judge9.proofs.PartSteps.{both}
 use Rattle.std.proofs.lemmas.List.{map-append}
 
 module _ (n : ℕ) where
   -- what is told of records
   by_renumbered : (past : ℕ) (es : List Exchange) (tail : List LineByte) (r : LineByte) (o : Outcome) → map (renumbered_event n) (events_by past es tail r o) ≡ events_by (n + past) es tail r o
-  by_renumbered past es tail r Outcome.leaves_open = refl
-  by_renumbered past es tail r Outcome.answers_late = refl
-  by_renumbered past es tail r Outcome.asks = refl
   by_renumbered past es tail r (Outcome.completes e) = refl
+  by_renumbered past es tail r o = refl
 
   events_renumbered : (rules : LineRules) (past : ℕ) (es : List Exchange) (tail records : List LineByte) (events : List Event) → AreEvents rules past es tail records events
       → AreEvents rules (n + past) es tail records (map (renumbered_event n) events)
@@ -43,25 +40,14 @@ module _ (n : ℕ) where
   -- where the next one begins
   from_renumbered : (past : ℕ) (last : Option LineByte) (records : List LineByte) → from_command (n + past) last records ≡ renumbered_rest n (from_command past last records)
   from_renumbered past last [] = refl
-  from_renumbered past last (r ∷ records) = by (may_begin last r) refl (from_renumbered (past + 1) (Some r) records)
-    where
-      next : n + (past + 1) ≡ n + past + 1
-      next = omega arith
-
-      by : (b : Bool) → may_begin last r ≡ b → from_command (n + (past + 1)) (Some r) records ≡ renumbered_rest n (from_command (past + 1) (Some r) records)
-          → from_command (n + past) last (r ∷ records) ≡ renumbered_rest n (from_command past last (r ∷ records))
-      by true begins later = rw begins refl
-      by false none later = rw none (rw next at later)
+  from_renumbered past last (r ∷ records) =
+      let next : n + (past + 1) ≡ n + past + 1 = omega arith in
+      both (λ (moved rest : Rest). moved ≡ renumbered_rest n rest) (may_begin last r) _ _ _ _ refl (rw next at (from_renumbered (past + 1) (Some r) records))
 
   rest_renumbered : (past : ℕ) (reason : Reason) (breaking : LineByte) (after : List LineByte) → rest_after (n + past) reason breaking after ≡ renumbered_rest n (rest_after past reason breaking after)
-  rest_renumbered past reason breaking after = by (begins_next_part reason breaking) refl
-    where
-      next : n + (past + 1) ≡ n + past + 1
-      next = omega arith
-
-      by : (b : Bool) → begins_next_part reason breaking ≡ b → rest_after (n + past) reason breaking after ≡ renumbered_rest n (rest_after past reason breaking after)
-      by true begins = rw begins refl
-      by false none = rw none (rw next at (from_renumbered (past + 1) (Some breaking) after))
+  rest_renumbered past reason breaking after =
+      let next : n + (past + 1) ≡ n + past + 1 = omega arith in
+      both (λ (moved rest : Rest). moved ≡ renumbered_rest n rest) (begins_next_part reason breaking) _ _ _ _ refl (rw next at (from_renumbered (past + 1) (Some breaking) after))
 
   -- all parts
   pub parts_renumbered : (profile : Profile) (rest left : Rest) (broken : List BrokenPart) → AreParts (in_parts profile) rest broken left
@@ -84,48 +70,28 @@ module _ (n : ℕ) where
   exchanges_renumbered [] = refl
   exchanges_renumbered (b ∷ broken) = ap (λ l. b.part.exchanges ++ l) (exchanges_renumbered broken)
 
-  late_in : (b : BrokenPart) → late_replies (events_in (renumbered_break n b)) ≡ late_replies (events_in b)
-  late_in b = by b.late
+  told_in_renumbered : (b : BrokenPart) → events_in (renumbered_break n b) ≡ map (renumbered_event n) (events_in b)
+  told_in_renumbered b = by b.late
     where
-      by : (late : Bool) → late_replies (map (renumbered_event n) b.part.events ++ (if late then late_reply (number_of (renumbered_break n b)) b.part.tail b.breaking ∷ [] else []))
-          ≡ late_replies (b.part.events ++ (if late then late_reply (number_of b) b.part.tail b.breaking ∷ [] else []))
-      by true = omega (arith, late_joined (map (renumbered_event n) b.part.events) (late_reply (number_of (renumbered_break n b)) b.part.tail b.breaking ∷ []), late_joined b.part.events (late_reply (number_of b) b.part.tail b.breaking ∷ []), late_renumbered b.part.events)
-      by false = omega (arith, late_joined (map (renumbered_event n) b.part.events) [], late_joined b.part.events [], late_renumbered b.part.events)
+      by : (late : Bool) → map (renumbered_event n) b.part.events ++ (if late then late_reply (number_of (renumbered_break n b)) b.part.tail b.breaking ∷ [] else [])
+          ≡ map (renumbered_event n) (b.part.events ++ (if late then late_reply (number_of b) b.part.tail b.breaking ∷ [] else []))
+      by true = ap (λ m. map (renumbered_event n) b.part.events ++ late_reply m b.part.tail b.breaking ∷ []) (omega arith) ∙ sym (map-append (renumbered_event n) b.part.events _)
+      by false = sym (map-append (renumbered_event n) b.part.events [])
+
+  told_of_renumbered : (broken : List BrokenPart) → events_of (map (renumbered_break n) broken) ≡ map (renumbered_event n) (events_of broken)
+  told_of_renumbered [] = refl
+  told_of_renumbered (b ∷ broken) = rw (told_in_renumbered b, told_of_renumbered broken) (sym (map-append (renumbered_event n) (events_in b) (events_of broken)))
 
   late_of : (broken : List BrokenPart) (events : List Event)
       → late_replies (events_of (map (renumbered_break n) broken) ++ map (renumbered_event n) events) ≡ late_replies (events_of broken ++ events)
-  late_of [] events = late_renumbered events
-  late_of (b ∷ broken) events =
-      omega (
-        arith,
-        late_in b,
-        late_of broken events,
-        late_joined (events_in (renumbered_break n b) ++ events_of (map (renumbered_break n) broken)) (map (renumbered_event n) events),
-        late_joined (events_in (renumbered_break n b)) (events_of (map (renumbered_break n) broken)),
-        late_joined (events_of (map (renumbered_break n) broken)) (map (renumbered_event n) events),
-        late_joined (events_in b ++ events_of broken) events,
-        late_joined (events_in b) (events_of broken),
-        late_joined (events_of broken) events,
-      )
-
-  breaks_renumbered : (broken : List BrokenPart) → length (map (renumbered_break n) broken) ≡ length broken
-  breaks_renumbered [] = refl
-  breaks_renumbered (b ∷ broken) = omega (arith, breaks_renumbered broken)
+  late_of broken events = rw (told_of_renumbered broken, ← (map-append (renumbered_event n) (events_of broken) events)) (late_renumbered (events_of broken ++ events))
 
   pub totals_renumbered : (records : ℕ) (broken : List BrokenPart) (last : Part) (t : Totals) → AreTotals records broken last t
       → AreTotals (n + records) (map (renumbered_break n) broken) (renumbered_part n last) (renumbered_totals n t)
   totals_renumbered records broken last t are = record {
-    breaks = omega (arith, are.breaks, breaks_renumbered broken, late_of broken last.events);
+    breaks = omega (arith, are.breaks, length-map broken (renumbered_break n), late_of broken last.events);
     all_records = ap (λ m. n + m) are.all_records;
     exchanges = rw (exchanges_renumbered broken) are.exchanges;
     tail = are.tail;
     passed_over = rw (exchanges_renumbered broken) (omega (arith, are.passed_over));
   }
-
--- those that are judged, and those that are passed over before them
-pub judged_size : (beginning : Beginning) (items : List LineByte) → (judged_from beginning items).past + length (judged_from beginning items).records ≡ length items
-judged_size beginning items = by (judged_more beginning items [])
-  where
-    by : ArePassed beginning items [] ⊎ AreJudged beginning items [] → (judged_from beginning items).past + length (judged_from beginning items).records ≡ length items
-    by (inl passed) = omega (arith, passed.all_passed, ap length passed.none_judged)
-    by (inr judged) = judged.size

@@ -1,21 +1,23 @@
 -- What the parts of a capture are to the capture that begins with each.
-use Rattle.judge9.proofs.Words.{late_replies, TellsLate, LineRules, counting, line_rules, in_parts, [], All, All-cons, All-nil, ap, AreCounts, AreParts, AreTotals, arith, begins_next_part, Bool, Breaks, BrokenPart, cut_once, drop, false, from_command, Profile, IsFirstBreak}
-use Rattle.judge9.proofs.Words.{IsOk, IsPart, length, LineByte, List, may_begin, number_of, Option, Part, Reason, refl, Rest, rest_after, same_parts, Some, sym, true, ℕ, ◌++◌, ◌+◌, ◌∙◌, ◌∷◌, ◌≡◌}
+use Rattle.judge9.proofs.Words.{late_replies, TellsBesides, TellsLate, Terms, LineRules, counting, line_rules, in_parts, [], All, All-cons, All-nil, ap, AreCounts, AreParts, AreTotals, arith, begins_next_part, Bool, Breaks, BrokenPart, cut_once, drop, false, from_command, Profile, IsFirstBreak}
+use Rattle.judge9.proofs.Words.{IsOk, IsPart, length, LineByte, List, may_begin, number_of, Option, Part, Reason, refl, Rest, rest_after, same_parts, Some, subst, sym, true, ℕ, ◌++◌, ◌+◌, ◌∙◌, ◌∷◌, ◌≡◌}
 use Rattle.std.proofs.lemmas.List.{drop-drop}
 use Rattle.std.proofs.Math.Seq.{drop-append_seam}
 use Rattle.report9.specs.declared.totals.Totals.{Totals}
+use Rattle.block9.specs.declared.line_rules.ReplyLimit.TheVariants.{the_data as ReplyLimit}
 use Rattle.judge9.proofs.CountingSteps.{cut_counts_all}
 use Rattle.judge9.proofs.EventSteps.{events_once}
 use Rattle.judge9.proofs.FirstBreak.{breaks_in_time, reason_told}
-use Rattle.judge9.proofs.LawLemmas.{break_once, no_break}
+use Rattle.judge9.proofs.LawLemmas.{break_once, no_break, part_ok}
 use Rattle.judge9.proofs.LineSteps.{cut_len}
+use Rattle.judge9.proofs.PartSteps.{either}
 
 -- the rest is what is left of the capture behind the records before it
 abbrev pub IsRestOf : List LineByte → Rest → Type 0
 IsRestOf items rest = rest.records ≡ drop rest.past items
 
 -- a record less
-behind : (items : List LineByte) (n : ℕ) (records : List LineByte) (r : LineByte) (after : List LineByte) → records ++ r ∷ after ≡ drop n items
+pub behind : (items : List LineByte) (n : ℕ) (records : List LineByte) (r : LineByte) (after : List LineByte) → records ++ r ∷ after ≡ drop n items
     → (r ∷ after ≡ drop (n + length records) items) × (after ≡ drop ((n + length records) + 1) items)
 behind items n records r after is =
     let at : r ∷ after ≡ drop (n + length records) items =
@@ -26,19 +28,11 @@ from_command_rest : (items : List LineByte) (n : ℕ) (last : Option LineByte) (
     → IsRestOf items (from_command n last records)
 from_command_rest items n last [] is = is
 from_command_rest items n last (r ∷ records) is =
-    by (may_begin last r) refl (from_command_rest items (n + 1) (Some r) records (ap (drop 1) is ∙ drop-drop 1 n items))
-  where
-    by : (b : Bool) → may_begin last r ≡ b → IsRestOf items (from_command (n + 1) (Some r) records) → IsRestOf items (from_command n last (r ∷ records))
-    by true begins later = rw begins is
-    by false none later = rw none later
+    either (IsRestOf items) (may_begin last r) _ _ is (from_command_rest items (n + 1) (Some r) records (ap (drop 1) is ∙ drop-drop 1 n items))
 
-rest_after_rest : (items : List LineByte) (n : ℕ) (reason : Reason) (breaking : LineByte) (after : List LineByte) → breaking ∷ after ≡ drop n items
+pub rest_after_rest : (items : List LineByte) (n : ℕ) (reason : Reason) (breaking : LineByte) (after : List LineByte) → breaking ∷ after ≡ drop n items
     → after ≡ drop (n + 1) items → IsRestOf items (rest_after n reason breaking after)
-rest_after_rest items n reason breaking after is next = by (begins_next_part reason breaking) refl
-  where
-    by : (b : Bool) → begins_next_part reason breaking ≡ b → IsRestOf items (rest_after n reason breaking after)
-    by true begins = rw begins is
-    by false none = rw none (from_command_rest items (n + 1) (Some breaking) after next)
+rest_after_rest items n reason breaking after is next = either (IsRestOf items) (begins_next_part reason breaking) _ _ is (from_command_rest items (n + 1) (Some breaking) after next)
 
 -- what holds of each part by itself, of the capture that begins with it
 each_of : (profile : Profile) (items : List LineByte) (P : BrokenPart → Type 0)
@@ -68,16 +62,19 @@ each_in_time_is_a_no profile items broken left parts =
     (λ b after split part breaks tells none. record { before = b.part.records; next = b.breaking; after = after; split = split; number = refl; breaks = breaks_in_time profile b part breaks tells none })
     (record { past = 0; records = items }) broken left refl parts
 
+-- a part that breaks, as the no of all that is left where it begins
+module _ {terms : Terms} {rest : Rest} (left : Rest) (b : BrokenPart) (broken : List BrokenPart) (parts : AreParts terms rest (b ∷ broken) left) where
+  abbrev pub first_no : IsFirstBreak terms rest.records (length b.part.records + 1) b.reason
+  first_no = record { before = b.part.records; next = b.breaking; after = parts.0; split = ap (λ (x : Rest). x.records) parts.1; number = refl; breaks = parts.3 }
+
+  pub none_breaks : IsOk terms rest.records → ⊥
+  none_breaks ok = no_break terms rest.records (length b.part.records + 1) b.reason ok first_no
+
 pub first_is_a_no : (profile : Profile) (items : List LineByte) (b : BrokenPart) (broken : List BrokenPart) (left : Rest)
     → AreParts (in_parts profile) (record { past = 0; records = items }) (b ∷ broken) left → IsFirstBreak (in_parts profile) items (number_of b) b.reason
-first_is_a_no profile items b broken left (after, same, part, breaks, tells, others) = record {
-  before = b.part.records;
-  next = b.breaking;
-  after = after;
-  split = ap (λ (x : Rest). x.records) same;
-  number = let none : 0 ≡ b.part.past = ap (λ (x : Rest). x.past) same in omega arith;
-  breaks = breaks;
-}
+first_is_a_no profile items b broken left parts =
+    let none : 0 ≡ b.part.past = ap (λ (x : Rest). x.past) parts.1 in
+    subst (λ n. IsFirstBreak (in_parts profile) items n b.reason) (omega arith) (first_no left b broken parts)
 
 pub counts_of_a_yes : (profile : Profile) (items : List LineByte) (left : Rest) (last : Part) (totals : Totals)
     → AreParts (in_parts profile) (record { past = 0; records = items }) [] left → IsPart (in_parts profile) last → last.records ≡ left.records → AreTotals (length items) [] last totals
@@ -108,15 +105,7 @@ pub record IsLast (profile : Profile) (left : Rest) (last : Part) : Type 0 where
 
 last_is_ok : (profile : Profile) (rest left : Rest) (last : Part) → left ≡ rest → IsLast profile left last → IsOk (in_parts profile) rest.records
 last_is_ok profile rest left last none is =
-    let same : last.records ≡ rest.records = is.has_all ∙ ap (λ (x : Rest). x.records) none in
-    record { exchanges = last.exchanges; tail = last.tail; cut = rw same at is.is_part.cut; run = is.is_part.run }
-
--- a part that breaks, as the no of all that is left where it begins
-first_no : (profile : Profile) (rest : Rest) (b : BrokenPart) (after : List LineByte)
-    → rest ≡ record { past = b.part.past; records = b.part.records ++ b.breaking ∷ after } → Breaks (in_parts profile) b.part.records b.breaking b.reason
-    → IsFirstBreak (in_parts profile) rest.records (length b.part.records + 1) b.reason
-first_no profile rest b after same breaks =
-    record { before = b.part.records; next = b.breaking; after = after; split = ap (λ (x : Rest). x.records) same; number = refl; breaks = breaks }
+    subst (IsOk (in_parts profile)) (is.has_all ∙ ap (λ (x : Rest). x.records) none) (part_ok is.is_part)
 
 part_by_fields : (a b : Part) → a.past ≡ b.past → a.records ≡ b.records → a.exchanges ≡ b.exchanges → a.tail ≡ b.tail → a.events ≡ b.events → a ≡ b
 part_by_fields a b past records exchanges tail events = grind arith
@@ -124,47 +113,48 @@ part_by_fields a b past records exchanges tail events = grind arith
 broken_by_fields : (a b : BrokenPart) → a.part ≡ b.part → a.breaking ≡ b.breaking → a.reason ≡ b.reason → a.late ≡ b.late → a ≡ b
 broken_by_fields a b part breaking reason late = grind arith
 
--- whether a record begins a late reply
-late_once : (rules : LineRules) (t : List LineByte) (r : LineByte) (some other : Bool) → TellsLate rules t r some → TellsLate rules t r other → some ≡ other
-late_once rules t r true true h k = refl
-late_once rules t r false false h k = refl
-late_once rules t r true false h k = absurd (k h)
-late_once rules t r false true h k = absurd (h k)
+-- whether a record begins a late reply besides
+besides_once : (limit : ReplyLimit) (rules : LineRules) (t : List LineByte) (r : LineByte) (some other : Bool) → TellsBesides limit rules t r some → TellsBesides limit rules t r other → some ≡ other
+besides_once ReplyLimit.Counts rules t r some other h k = h ∙ sym k
+besides_once ReplyLimit.LeftAside rules t r true true h k = refl
+besides_once ReplyLimit.LeftAside rules t r false false h k = refl
+besides_once ReplyLimit.LeftAside rules t r true false h k = absurd (k h)
+besides_once ReplyLimit.LeftAside rules t r false true h k = absurd (h k)
 
 totals_by_fields : (a b : Totals) → a.breaks ≡ b.breaks → a.records ≡ b.records → a.exchanges ≡ b.exchanges → a.passed_over ≡ b.passed_over → a.tail ≡ b.tail → a ≡ b
 totals_by_fields a b breaks records exchanges passed tail = grind arith
 
-same_part : (profile : Profile) (some other : Part) → IsPart (in_parts profile) some → IsPart (in_parts profile) other → some.past ≡ other.past → some.records ≡ other.records
-    → some ≡ other
-same_part profile some other is also past records =
-    let cut = cut_once (line_rules (in_parts profile)) other.records some.exchanges other.exchanges some.tail other.tail (rw records at is.cut) also.cut in
-    let events = events_once (line_rules (in_parts profile)) other.past [] [] other.records some.events other.events (rw (past, records) at is.are_events) also.are_events in
+pub same_part : (terms : Terms) (some other : Part) → IsPart terms some → IsPart terms other → some.past ≡ other.past → some.records ≡ other.records → some ≡ other
+same_part terms some other is also past records =
+    let cut = cut_once (line_rules terms) other.records some.exchanges other.exchanges some.tail other.tail (rw records at is.cut) also.cut in
+    let events = events_once (line_rules terms) other.past [] [] other.records some.events other.events (rw (past, records) at is.are_events) also.are_events in
     part_by_fields some other past records cut.0 cut.1 events
+
+-- one part breaks first, and the same records come after it
+pub one_first : {terms : Terms} {rest : Rest} (left remaining : Rest) (b c : BrokenPart) (broken others : List BrokenPart) (p : AreParts terms rest (b ∷ broken) left) (q : AreParts terms rest (c ∷ others) remaining)
+    → (b ≡ c) × (p.0 ≡ q.0)
+one_first {terms = terms} {rest = rest} left remaining b c broken others p q =
+    let once = break_once terms rest.records (length b.part.records + 1) (length c.part.records + 1) b.reason c.reason (first_no left b broken p) (first_no remaining c others q) in
+    let records = sym (ap (λ (x : Rest). x.records) p.1) ∙ ap (λ (x : Rest). x.records) q.1 in
+    let split = same_parts b.part.records c.part.records (b.breaking ∷ p.0) (c.breaking ∷ q.0) (omega (arith, once.0)) records in
+    let breaking : b.breaking ≡ c.breaking = let e = split.1 in cc in
+    let behind : p.0 ≡ q.0 = let e = split.1 in cc in
+    let equal = same_part terms b.part c.part p.2 q.2 (sym (ap (λ (x : Rest). x.past) p.1) ∙ ap (λ (x : Rest). x.past) q.1) split.0 in
+    let late = besides_once terms.reply_limit (line_rules terms) c.part.tail c.breaking b.late c.late (rw (ap (λ (x : Part). x.tail) equal, breaking) at p.4) q.4 in
+    (broken_by_fields b c equal breaking once.1 late, behind)
 
 pub one_list : (profile : Profile) (rest left remaining : Rest) (broken others : List BrokenPart) (last other : Part) → AreParts (in_parts profile) rest broken left
     → IsLast profile left last → AreParts (in_parts profile) rest others remaining → IsLast profile remaining other → (broken ≡ others) × (last ≡ other)
 one_list profile rest left remaining [] [] last other p is q also = (
   refl,
-  same_part profile last other is.is_part also.is_part (is.past ∙ ap (λ (x : Rest). x.past) (p ∙ sym q) ∙ sym also.past)
+  same_part (in_parts profile) last other is.is_part also.is_part (is.past ∙ ap (λ (x : Rest). x.past) (p ∙ sym q) ∙ sym also.past)
       (is.has_all ∙ ap (λ (x : Rest). x.records) (p ∙ sym q) ∙ sym also.has_all),
 )
-one_list profile rest left remaining [] (c ∷ others) last other p is (after, same, part, breaks, tells, more) also =
-    absurd (no_break (in_parts profile) rest.records (length c.part.records + 1) c.reason (last_is_ok profile rest left last p is) (first_no profile rest c after same breaks))
-one_list profile rest left remaining (b ∷ broken) [] last other (after, same, part, breaks, tells, more) is q also =
-    absurd (no_break (in_parts profile) rest.records (length b.part.records + 1) b.reason (last_is_ok profile rest remaining other q also) (first_no profile rest b after same breaks))
-one_list profile rest left remaining (b ∷ broken) (c ∷ others) last other (after, same, part, breaks, tells, more) is (behind_c, same_c, part_c, breaks_c, tells_c, more_c) also =
-    let once = break_once (in_parts profile) rest.records (length b.part.records + 1) (length c.part.records + 1) b.reason c.reason
-    (first_no profile rest b after same breaks) (first_no profile rest c behind_c same_c breaks_c) in
-    let records : b.part.records ++ b.breaking ∷ after ≡ c.part.records ++ c.breaking ∷ behind_c =
-    sym (ap (λ (x : Rest). x.records) same) ∙ ap (λ (x : Rest). x.records) same_c in
-    let split = same_parts b.part.records c.part.records (b.breaking ∷ after) (c.breaking ∷ behind_c) (omega (arith, once.0)) records in
-    let breaking : b.breaking ≡ c.breaking = let e = split.1 in cc in
-    let behind : after ≡ behind_c = let e = split.1 in cc in
-    let equal = same_part profile b.part c.part part part_c (sym (ap (λ (x : Rest). x.past) same) ∙ ap (λ (x : Rest). x.past) same_c) split.0 in
-    let late = late_once (line_rules (in_parts profile)) c.part.tail c.breaking b.late c.late (rw (ap (λ (x : Part). x.tail) equal, breaking) at tells) tells_c in
-    let first = broken_by_fields b c equal breaking once.1 late in
-    let parts = one_list profile (rest_after (c.part.past + length c.part.records) c.reason c.breaking behind_c) left remaining broken others last other
-    (rw (equal, breaking, behind, once.1) at more) is more_c also in
+one_list profile rest left remaining [] (c ∷ others) last other p is q also = absurd (none_breaks remaining c others q (last_is_ok profile rest left last p is))
+one_list profile rest left remaining (b ∷ broken) [] last other p is q also = absurd (none_breaks left b broken p (last_is_ok profile rest remaining other q also))
+one_list profile rest left remaining (b ∷ broken) (c ∷ others) last other p is q also =
+    let (first, behind) = one_first left remaining b c broken others p q in
+    let parts = one_list profile (rest_after (c.part.past + length c.part.records) c.reason c.breaking q.0) left remaining broken others last other (rw (first, behind) at p.5) is q.5 also in
     (cc (first, parts.0), parts.1)
 
 pub one_total : (records : ℕ) (broken : List BrokenPart) (last : Part) (totals others : Totals) → AreTotals records broken last totals

@@ -1,6 +1,6 @@
 -- What is passed over after a break, where the next part begins, and what a judging of all parts comes to.
-use Rattle.judge9.proofs.Words.{[], ap, append-nil, append_assoc, AreRead, arith, Beginning, Bool, false, from_command, GivesAll, GivesRecord, inl, inr, judged_from, last_of, length, LineByte}
-use Rattle.judge9.proofs.Words.{List, may_begin, None, NoneBegins, Option, Progress, refl, Rest, Rows, Some, subst, true, ℕ, ◌++◌, ◌+◌, ◌∙◌, ◌∷◌, ◌≡◌, ◌≤◌, ◌⊎◌}
+use Rattle.judge9.proofs.Words.{[], append-nil, append_assoc, AreRead, arith, Beginning, begins_next_part, Bool, false, from_command, GivesAll, GivesRecord, if◌then◌else◌, inl, inr, judged_from, last_of, length, LineByte}
+use Rattle.judge9.proofs.Words.{List, may_begin, None, NoneBegins, Option, Progress, Reason, refl, Rest, rest_after, Rows, Some, subst, true, ℕ, ◌++◌, ◌+◌, ◌∙◌, ◌∷◌, ◌≡◌, ◌≤◌, ◌⊎◌}
 use Rattle.judge9.proofs.ReadSteps.{read_next}
 
 -- ---- records that were given one after another
@@ -49,14 +49,24 @@ passed_all n last [] none = cc (let e : n + 0 ≡ n = omega arith in e)
 passed_all n last (r ∷ records) none = rw none.0 (passed_all (n + 1) (Some r) records none.1 ∙ cc
     (let e : (n + 1) + length records ≡ n + length (r ∷ records) = omega arith in e))
 
+-- what holds either way
+pub either : {A : Type 0} (P : A → Type 0) (b : Bool) (x y : A) → P x → P y → P (if b then x else y)
+either P true x y here later = here
+either P false x y here later = later
+
+pub both : {A B : Type 0} (P : A → B → Type 0) (b : Bool) (x y : A) (u v : B) → P x u → P y v → P (if b then x else y) (if b then u else v)
+both P true x y u v here later = here
+both P false x y u v here later = later
+
 -- it never begins earlier
 pub from_command_low : (past : ℕ) (last : Option LineByte) (records : List LineByte) → past ≤ (from_command past last records).past
 from_command_low past last [] = omega arith
-from_command_low past last (r ∷ records) = by (may_begin last r) refl (from_command_low (past + 1) (Some r) records)
-  where
-    by : (b : Bool) → may_begin last r ≡ b → past + 1 ≤ (from_command (past + 1) (Some r) records).past → past ≤ (from_command past last (r ∷ records)).past
-    by true begins later = rw begins (omega arith)
-    by false none later = rw none (omega (arith, later))
+from_command_low past last (r ∷ records) =
+    either (λ (rest : Rest). past ≤ rest.past) (may_begin last r) _ _ (omega arith) (omega (arith, from_command_low (past + 1) (Some r) records))
+
+pub rest_after_low : (n : ℕ) (reason : Reason) (breaking : LineByte) (after : List LineByte) → n ≤ (rest_after n reason breaking after).past
+rest_after_low n reason breaking after =
+    either (λ (rest : Rest). n ≤ rest.past) (begins_next_part reason breaking) _ _ (omega arith) (omega (arith, from_command_low (n + 1) (Some breaking) after))
 
 -- ---- where a judging begins
 
@@ -68,34 +78,6 @@ pub from_none : (beginning : Beginning) → IsFrom beginning [] []
 from_none Beginning.FirstRecord = record { same = refl }
 from_none Beginning.FirstCommand = record { same = refl }
 
--- so are they where less was read
-abbrev IsLess : ℕ → Option LineByte → List LineByte → List LineByte → LineByte → Type 0
-IsLess n last past items r = from_command n last (past ++ (items ++ r ∷ [])) ≡ record { past = n + length past; records = items ++ r ∷ [] }
-    → from_command n last (past ++ items) ≡ record { past = n + length past; records = items }
-
-command_less : (n : ℕ) (last : Option LineByte) (past items : List LineByte) (r : LineByte) → IsLess n last past items r
-command_less n last [] [] r = λ is. cc (let e : n + 0 ≡ n = omega arith in e)
-command_less n last [] (x ∷ items) r = by (may_begin last x) refl
-  where
-    by : (b : Bool) → may_begin last x ≡ b → IsLess n last [] (x ∷ items) r
-    by true begins = λ is. rw begins (cc (let e : n + 0 ≡ n = omega arith in e))
-    by false none = λ is.
-        let at = ap (λ (rest : Rest). rest.past) (rw none at is) in absurd (omega (arith, at, from_command_low (n + 1) (Some x) (items ++ r ∷ [])))
-command_less n last (x ∷ past) items r = by (may_begin last x) refl (command_less (n + 1) (Some x) past items r)
-  where
-    by : (b : Bool) → may_begin last x ≡ b → IsLess (n + 1) (Some x) past items r → IsLess n last (x ∷ past) items r
-    by true begins less = λ is. let at = ap (λ (rest : Rest). rest.past) (rw begins at is) in absurd (omega (arith, at))
-    by false none less = λ is.
-        let size : n + length (x ∷ past) ≡ n + 1 + length past = omega arith in
-        rw (none, size) (less (rw (none, size) at is))
-
-pub from_less : (beginning : Beginning) (past items : List LineByte) (r : LineByte) → IsFrom beginning past (items ++ r ∷ []) → IsFrom beginning past items
-from_less Beginning.FirstRecord [] items r is = record { same = refl }
-from_less Beginning.FirstRecord (x ∷ past) items r is = let at = ap (λ (rest : Rest). rest.past) is.same in absurd (omega (arith, at))
-from_less Beginning.FirstCommand past items r is =
-    let none : 0 + length past ≡ length past = omega arith in
-    record { same = rw none at (command_less 0 None past items r (rw (← none) at is.same)) }
-
 -- records that are passed over, and then the first that may begin, or none
 pub judged_with : (passed : List LineByte) (first : LineByte) → NoneBegins None passed → may_begin (last_of None passed) first ≡ true → (more : List LineByte)
     → IsFrom Beginning.FirstCommand passed (first ∷ more)
@@ -106,44 +88,26 @@ pub none_judged : (passed : List LineByte) → NoneBegins None passed → IsFrom
 none_judged passed none =
     let zero : 0 + length passed ≡ length passed = omega arith in record { same = rw append-nil (rw zero at (passed_all 0 None passed none)) }
 
--- with more records: all were passed over, or the same are judged with those
-pub record ArePassed (beginning : Beginning) (items rest : List LineByte) : Type 0 where
-  pub none_judged : (judged_from beginning items).records ≡ []
-  pub all_passed : (judged_from beginning items).past ≡ length items
-  pub later : length items ≤ (judged_from beginning (items ++ rest)).past
+-- with more records: none of these is judged, or the same are judged with those
+abbrev pub GoesOn : (List LineByte → Rest) → List LineByte → List LineByte → Type 0
+GoesOn left items more = ((left items).records ≡ []) ⊎ (left (items ++ more) ≡ record { past = (left items).past; records = (left items).records ++ more })
 
-pub record AreJudged (beginning : Beginning) (items rest : List LineByte) : Type 0 where
-  pub size : (judged_from beginning items).past + length (judged_from beginning items).records ≡ length items
-  pub same : judged_from beginning (items ++ rest) ≡ record { past = (judged_from beginning items).past; records = (judged_from beginning items).records ++ rest }
+command_more : (n : ℕ) (last : Option LineByte) (items more : List LineByte) → GoesOn (from_command n last) items more
+command_more n last [] more = inl refl
+command_more n last (x ∷ items) more =
+    both (λ (rest all : Rest). (rest.records ≡ []) ⊎ (all ≡ record { past = rest.past; records = rest.records ++ more })) (may_begin last x) _ _ _ _ (inr refl)
+    (command_more (n + 1) (Some x) items more)
 
-abbrev GoesOn : ℕ → Option LineByte → List LineByte → List LineByte → Type 0
-GoesOn n last items rest =
-    (from_command n last items ≡ record { past = n + length items; records = [] }) × (n + length items ≤ (from_command n last (items ++ rest)).past)
-    ⊎ ((from_command n last items).past + length (from_command n last items).records ≡ n + length items)
-    × (from_command n last (items ++ rest) ≡ record { past = (from_command n last items).past; records = (from_command n last items).records ++ rest })
+pub judged_more : (beginning : Beginning) (items more : List LineByte) → GoesOn (judged_from beginning) items more
+judged_more Beginning.FirstRecord items more = inr refl
+judged_more Beginning.FirstCommand items more = command_more 0 None items more
 
-command_more : (n : ℕ) (last : Option LineByte) (items rest : List LineByte) → GoesOn n last items rest
-command_more n last [] rest = inl (cc (let e : n + 0 ≡ n = omega arith in e), omega (arith, from_command_low n last rest))
-command_more n last (x ∷ items) rest = by (may_begin last x) refl (command_more (n + 1) (Some x) items rest)
-  where
-    size : n + length (x ∷ items) ≡ n + 1 + length items
-    size = omega arith
+-- those that are judged, and those that are passed over before them
+pub from_size : (n : ℕ) (last : Option LineByte) (items : List LineByte) → (from_command n last items).past + length (from_command n last items).records ≡ n + length items
+from_size n last [] = refl
+from_size n last (x ∷ items) =
+    either (λ (rest : Rest). rest.past + length rest.records ≡ n + length (x ∷ items)) (may_begin last x) _ _ refl (omega (arith, from_size (n + 1) (Some x) items))
 
-    by : (b : Bool) → may_begin last x ≡ b → GoesOn (n + 1) (Some x) items rest → GoesOn n last (x ∷ items) rest
-    by true begins more = rw begins (inr (refl, refl))
-    by false none more = rw (none, size) more
-
-pub judged_more : (beginning : Beginning) (items rest : List LineByte) → ArePassed beginning items rest ⊎ AreJudged beginning items rest
-judged_more Beginning.FirstRecord items rest = inr (record { size = omega arith; same = refl })
-judged_more Beginning.FirstCommand items rest = by (command_more 0 None items rest)
-  where
-    zero : 0 + length items ≡ length items
-    zero = omega arith
-
-    by : GoesOn 0 None items rest → ArePassed Beginning.FirstCommand items rest ⊎ AreJudged Beginning.FirstCommand items rest
-    by (inl (all, later)) = inl (record {
-      none_judged = ap (λ (r : Rest). r.records) all;
-      all_passed = ap (λ (r : Rest). r.past) all ∙ zero;
-      later = omega (arith, later);
-    })
-    by (inr (size, same)) = inr (record { size = size ∙ zero; same = same })
+pub judged_size : (beginning : Beginning) (items : List LineByte) → (judged_from beginning items).past + length (judged_from beginning items).records ≡ length items
+judged_size Beginning.FirstRecord items = omega arith
+judged_size Beginning.FirstCommand items = omega (arith, from_size 0 None items)

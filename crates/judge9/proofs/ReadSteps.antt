@@ -1,6 +1,6 @@
 -- The records that were read of a text, and the rows that a judging speaks of.
 use Rattle.judge9.proofs.Words.{[], ap, append-nil, append_assoc, AreGiven, AreRead, CanBeRows, CaptureError, Feed, given-more, given-none, GivesRecord, IfNone, IfSome, IsFresh, IsOfSomeText, IsStartOf, LineByte, List}
-use Rattle.judge9.proofs.Words.{None, Option, Progress, refl, Rows, Some, some-text, subst, sym, TakesRecord, Terms, WereRead, ℕ, ◌++◌, ◌∙◌, ◌∷◌, ◌≡◌}
+use Rattle.judge9.proofs.Words.{None, Option, Progress, refl, Rows, Some, some-text, sym, TakesRecord, Terms, WereRead, ℕ, ◌++◌, ◌∙◌, ◌∷◌, ◌≡◌}
 
 -- before a row is read
 pub unread : (rows : Option Rows) → WereRead rows [] rows
@@ -69,8 +69,3 @@ seen limit (Some a) left items fault read can =
     let whole : IfSome left (λ rest. rest ≡ record { records = []; fault = fault }) → a ≡ record { records = items; fault = fault } = λ none. let last =
     rw read.1 at none in rw (last, append-nil) at read.2 in
     record { all = a; is_known = refl; of_a_text = tt; start = (read.0.records, ap (λ (x : Rows). x.records) read.2); whole = whole }
-
--- what holds of these rows holds of those that are known
-pub of_known : (rows : Option Rows) (all : Rows) (P : Rows → Type 0) → IfSome rows (λ a. all ≡ a) → P all → IfSome rows P
-of_known None all P same p = tt
-of_known (Some a) all P same p = subst P same p

@@ -41,9 +41,6 @@ later {r = r} given takes x e =
     let t : x ≡ r.time_us = cc in omega arith
 
 module _ {R : Type 0} {limit : ℕ} {terms : Terms} {rows : Option Rows} {past : List LineByte} {part : Part} {j : Feed R} (h : InPart limit terms rows past part j) where
-  pub part_ok : IsOk terms part.records
-  part_ok = record { exchanges = part.exchanges; tail = part.tail; cut = h.is_part.cut; run = h.is_part.run }
-
   -- a record more was read
   pub read_on : {after : Progress R} {r : LineByte} → GivesRecord j.rows r after → AreRead limit rows (past ++ (part.records ++ r ∷ [])) after
   read_on {after = after} {r = r} gives =
@@ -86,8 +83,7 @@ module _ {R : Type 0} {limit : ℕ} {terms : Terms} {rows : Option Rows} {past :
       by : (o : Outcome) → IsOpen o → Takes j.follower.pairer r o k.follower.pairer → (o : Outcome) × IsOpen o × InPart limit terms rows past (with_record part r o) k
       by (Outcome.completes e) is_open takes = absurd is_open
       by Outcome.answers_late is_open takes = absurd is_open
-      by Outcome.leaves_open is_open takes = (Outcome.leaves_open, tt, more Outcome.leaves_open c.gives takes h.is_part.run (rw w.same_tracker h.follows))
-      by Outcome.asks is_open takes = (Outcome.asks, tt, more Outcome.asks c.gives takes h.is_part.run (rw w.same_tracker h.follows))
+      by o is_open takes = (o, is_open, more o c.gives takes h.is_part.run (rw w.same_tracker h.follows))
 
   -- one that begins a late reply
   pub more_late : {k : Feed R} {r : LineByte} → GivesRecord j.rows r k.rows → BeginsReplyLate j.follower k.follower r

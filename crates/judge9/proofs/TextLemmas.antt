@@ -40,10 +40,9 @@ all_given terms counts past p es tail (r ∷ records) events fs now cut all run 
 
     by : (o : Outcome) → Does (line_rules terms) tail r o → AreAllGiven terms.profile more → events ≡ events_by (past + 1) es tail r o ++ more
         → AreAllGiven terms.profile events
-    by Outcome.leaves_open done given is = rw is given
     by Outcome.answers_late done given is = absurd (limit_counts (line_rules terms) tail r counts done)
-    by Outcome.asks done given is = rw is given
     by (Outcome.completes e) done given is = rw is (ended e done, given)
+    by o done given is = rw is given
 
 pub part_given : (profile : Profile) (part : Part) → IsPart (counting profile) part → AreAllGiven profile part.events
 part_given profile part is =

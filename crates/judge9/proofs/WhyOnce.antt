@@ -1,23 +1,23 @@
 -- Why a part breaks is told in one way.
 use Rattle.judge9.proofs.Words.{[], ap, arith, Bool, BrokenPart, Command, CouldShow, Exchange, has, HasRun, if◌then◌else◌, IsKnowledge, IsKnown, IsKnownEntry, IsWhy, Knowledge, Known, KnownEntry, length, length_push}
-use Rattle.judge9.proofs.Words.{line_of, line_rules, LineByte, LineRules, List, Mode, ModeSet, None, Option, Outcome, Profile, Reason, refl, Register, same_parts, Some, some_end, State, sym, Terms, text_of_why, true, Verdict, WhyNo, ℕ}
-use Rattle.judge9.proofs.Words.{bytes_of, command_of, EndedExchange, false, IsBefore, length-append, ◌++◌, ◌+◌, ◌-◌, ◌↔◌, ◌∙◌, ◌∷◌, ◌≡◌}
+use Rattle.judge9.proofs.Words.{line_rules, LineByte, LineRules, List, Mode, ModeSet, None, Option, Outcome, Profile, refl, Register, same_parts, Some, some_end, State, sym, Terms, text_of_why, true, WhyNo}
+use Rattle.judge9.proofs.Words.{bytes_of, command_of, EndedExchange, false, IsBefore, ◌++◌, ◌↔◌, ◌∙◌, ◌∷◌, ◌≡◌}
 use Rattle.std.specs.Prelude.{codes, ◌%◌}
 use Rattle.std.specs.List.{list_all, list_any, sum}
 use Rattle.capture9.specs.declared.line_byte.Wire.TheVariants.{Controller}
-use Rattle.block9.proofs.LineLemmas.{whole_long, whole_parts}
+use Rattle.block9.proofs.LineLemmas.{whole_parts}
 use Rattle.block9.proofs.TailLemmas.{in_reply_of, place_in_command, place_of_command}
-use Rattle.block9.specs.Exchange.{IsCommand, records_in}
+use Rattle.block9.specs.Exchange.{IsCommand}
 use Rattle.block9.specs.Line.{block_len}
 use Rattle.block9.specs.Pairer.{IsOpenAfter}
 use Rattle.block9.specs.Pairer.IsOpenAfter.{after_command, in_command, in_reply, nothing}
 use Rattle.block9.specs.declared.block.Block.{Block}
 use Rattle.block9.specs.declared.open.Open.{Open}
+use Rattle.block9.specs.Working.Table.{place_of}
 use Rattle.deck9.specs.Mode.{every_mode, name_of as name_of_mode}
 use Rattle.report9.specs.ExchangeBytes.{text_of_modes}
-use Rattle.report9.specs.Explanation.{text_of_fields}
 use Rattle.report9.specs.Row.{in_a_row, names_of}
-use Rattle.report9.specs.WhyText.{end_before, line_if_ended, line_of_breaking, line_of_could_show, lines_at, lines_of_break, lines_of_open, text_of_shown}
+use Rattle.report9.specs.WhyText.{line_of_could_show, lines_of_break, text_of_shown}
 use Rattle.why9.proofs.OneContradiction.{one_contradiction}
 use Rattle.why9.specs.Shown.{CouldBe}
 use Rattle.judge9.proofs.EventSteps.{does_once}
@@ -34,35 +34,23 @@ module _ (rules : LineRules) where
       let block = (whole_parts Controller t t [] [] b d h.whole k.whole refl).2 in
       let meaning = sym h.meaning ∙ ap (λ x. command_of rules.rate x) block ∙ k.meaning in cc
 
-  pub open_once : (t : List LineByte) (o p : Open) → IsOpenAfter rules t o → IsOpenAfter rules t p → o ≡ p
+  -- where the tail stands, by what is open
+  abbrev stands_at : (t : List LineByte) (o : Open) → IsOpenAfter rules t o → (p : _) × (place_of t ≡ p)
+  stands_at t o (nothing none same) = (place_of [], rw none refl)
+  stands_at t o (in_command begun same) = (_, place_in_command rules Controller t begun)
+  stands_at t o (after_command b c h same) = (_, place_of_command rules Controller t b h.whole)
+  stands_at t o (in_reply command reply b c split h begun soon same) = (_, (in_reply_of rules command reply t b c split h begun.begun).place)
+
+  open_once : (t : List LineByte) (o p : Open) → IsOpenAfter rules t o → IsOpenAfter rules t p → o ≡ p
   open_once t o p (nothing none same) (nothing also is) = same ∙ sym is
-  open_once t o p (nothing none same) (in_command begun is) = absurd (let some = begun.begun in omega (arith, ap length none))
-  open_once t o p (nothing none same) (after_command b c h is) = absurd (omega (arith, ap length none, whole_long Controller t b h.whole))
-  open_once t o p (nothing none same) (in_reply command reply b c split h begun soon is) =
-      absurd (let some = begun.begun in omega (arith, ap length none, ap length split, length-append command reply))
-  open_once t o p (in_command begun same) (nothing none is) = absurd (let some = begun.begun in omega (arith, ap length none))
   open_once t o p (in_command begun same) (in_command also is) = same ∙ sym is
-  open_once t o p (in_command begun same) (after_command b c h is) =
-      absurd (let after = place_of_command rules Controller t b h.whole in let inside = place_in_command rules Controller t begun in cc)
-  open_once t o p (in_command begun same) (in_reply command reply b c split h answered soon is) =
-      absurd (let after = (in_reply_of rules command reply t b c split h answered.begun).place in let inside = place_in_command rules Controller t begun in cc)
-  open_once t o p (after_command b c h same) (nothing none is) = absurd (omega (arith, ap length none, whole_long Controller t b h.whole))
-  open_once t o p (after_command b c h same) (in_command begun is) =
-      absurd (let after = place_of_command rules Controller t b h.whole in let inside = place_in_command rules Controller t begun in cc)
   open_once t o p (after_command b c h same) (after_command d e k is) =
       same ∙ ap (λ x. record { command = Some x; asked = length t; answered = 0; wanted = 0; sum = 0 }) (command_once t b d c e h k) ∙ sym is
-  open_once t o p (after_command b c h same) (in_reply command reply d e split k answered soon is) =
-      absurd (let after = place_of_command rules Controller t b h.whole in let inside = (in_reply_of rules command reply t d e split k answered.begun).place in cc)
-  open_once t o p (in_reply command reply b c split h answered soon same) (nothing none is) =
-      absurd (let some = answered.begun in omega (arith, ap length none, ap length split, length-append command reply))
-  open_once t o p (in_reply command reply b c split h answered soon same) (in_command begun is) =
-      absurd (let after = (in_reply_of rules command reply t b c split h answered.begun).place in let inside = place_in_command rules Controller t begun in cc)
-  open_once t o p (in_reply command reply b c split h answered soon same) (after_command d e k is) =
-      absurd (let after = place_of_command rules Controller t d k.whole in let inside = (in_reply_of rules command reply t b c split h answered.begun).place in cc)
   open_once t o p (in_reply command reply b c split h answered soon same) (in_reply asked answer d e parted k replied later is) =
       let parts = whole_parts Controller command asked reply answer b d h.whole k.whole (sym split ∙ parted) in
       let one = command_once asked b d c e (rw parts.0 at h) k in
       same ∙ ap (λ l. in_reply_with c l reply) parts.0 ∙ ap (λ l. in_reply_with c asked l) parts.1 ∙ ap (λ x. in_reply_with x asked answer) one ∙ sym is
+  open_once t o p h k = absurd (cc ((stands_at t o h).1, (stands_at t p k).1))
 
 -- ---- the exchange before
 
@@ -86,20 +74,17 @@ entry_once : (X : State → Type 0) (r : Register) (a b : KnownEntry) → ((s : 
 entry_once X r a b some h k = grind arith
 
 knowledge_once : (X : State → Type 0) (k l : Knowledge) → ((s : State) × X s) → IsKnowledge X k → IsKnowledge X l → k ≡ l
-knowledge_once X k l some a b = by (λ q r s t u v w x. record { goal = q; shown = r; ins = s; outs = t; ains = u; aouts = v; local = w; panel = x })
-  where
-    by : (make : Known Mode → Known Mode → KnownEntry → KnownEntry → KnownEntry → KnownEntry → Known Bool → Known Bool → Knowledge)
-        → make k.goal k.shown k.ins k.outs k.ains k.aouts k.local k.panel ≡ make l.goal l.shown l.ins l.outs l.ains l.aouts l.local l.panel
-    by make = cc (
-      known_once X (λ (s : State). s.goal) k.goal l.goal some a.goal b.goal,
-      known_once X (λ (s : State). s.shown) k.shown l.shown some a.shown b.shown,
-      known_once X (λ (s : State). s.local) k.local l.local some a.local b.local,
-      known_once X (λ (s : State). s.panel) k.panel l.panel some a.panel b.panel,
-      entry_once X Register.RegIn k.ins l.ins some a.ins b.ins,
-      entry_once X Register.RegOut k.outs l.outs some a.outs b.outs,
-      entry_once X Register.RegAudioIn k.ains l.ains some a.ains b.ains,
-      entry_once X Register.RegAudioOut k.aouts l.aouts some a.aouts b.aouts,
-    )
+knowledge_once X k l some a b = grind (
+  arith,
+  known_once X (λ (s : State). s.goal) k.goal l.goal some a.goal b.goal,
+  known_once X (λ (s : State). s.shown) k.shown l.shown some a.shown b.shown,
+  known_once X (λ (s : State). s.local) k.local l.local some a.local b.local,
+  known_once X (λ (s : State). s.panel) k.panel l.panel some a.panel b.panel,
+  entry_once X Register.RegIn k.ins l.ins some a.ins b.ins,
+  entry_once X Register.RegOut k.outs l.outs some a.outs b.outs,
+  entry_once X Register.RegAudioIn k.ains l.ains some a.ains b.ains,
+  entry_once X Register.RegAudioOut k.aouts l.aouts some a.aouts b.aouts,
+)
 
 bool_once : (a b : Bool) (P : Type 0) → (a ≡ true) ↔ P → (b ≡ true) ↔ P → a ≡ b
 bool_once true true P h k = refl
@@ -107,34 +92,17 @@ bool_once true false P h k = sym (k.1 (h.0 refl))
 bool_once false true P h k = h.1 (k.0 refl)
 bool_once false false P h k = refl
 
-module _ (f g : Mode → Bool) (same : (m : Mode) → f m ≡ g m) where
-  all_same : (ms : List Mode) → list_all f ms ≡ list_all g ms
-  all_same [] = refl
-  all_same (m ∷ ms) = rw (same m, all_same ms) refl
-
-  any_same : (ms : List Mode) → list_any f ms ≡ list_any g ms
-  any_same [] = refl
-  any_same (m ∷ ms) = rw (same m, any_same ms) refl
-
-  names_same : (ms : List Mode) → names_of f name_of_mode ms ≡ names_of g name_of_mode ms
-  names_same [] = refl
-  names_same (m ∷ ms) = rw (same m, names_same ms) refl
-
 shown_once : (set other : ModeSet) → ((m : Mode) → has set.0 m ≡ has other.0 m) → text_of_shown set ≡ text_of_shown other
 unfolding text_of_shown text_of_modes
 shown_once set other same =
-    ap (λ b. if b then codes "any" else text_of_modes set) (all_same (has set.0) (has other.0) same every_mode)
-    ∙ ap (λ b. if list_all (has other.0) every_mode then codes "any" else (if b then in_a_row [] (codes "|") (names_of (has set.0) name_of_mode every_mode) else codes "none"))
-    (any_same (has set.0) (has other.0) same every_mode)
-    ∙ ap (λ l. if list_all (has other.0) every_mode then codes "any" else (if list_any (has other.0) every_mode then in_a_row [] (codes "|") l else codes "none"))
-    (names_same (has set.0) (has other.0) same every_mode)
+    let whole : has set.0 ≡ has other.0 = λ i m. same m i in
+    ap (λ (shows : Mode → Bool). if list_all shows every_mode then codes "any"
+    else (if list_any shows every_mode then in_a_row [] (codes "|") (names_of shows name_of_mode every_mode) else codes "none")) whole
 
 could_show_once : (profile : Profile) (es : List Exchange) (e : Exchange) (k l : Knowledge) (set other : ModeSet) → HasRun profile es
     → CouldShow profile (es ++ e ∷ []) k set → CouldShow profile (es ++ e ∷ []) l other → line_of_could_show profile k set ≡ line_of_could_show profile l other
 unfolding line_of_could_show
-could_show_once profile es e k l set other run a b =
-    ap (λ t. codes "could show: shown " ++ t ++ text_of_fields profile k ++ codes "\n") (shown_once set other modes)
-    ∙ ap (λ x. codes "could show: shown " ++ text_of_shown other ++ text_of_fields profile x ++ codes "\n") knows
+could_show_once profile es e k l set other run a b = cc (shown_once set other modes, knows)
   where
     same_before : (before : List Exchange) (last : Exchange) → es ++ e ∷ [] ≡ before ++ last ∷ [] → before ≡ es
     same_before before last split =
@@ -157,25 +125,18 @@ could_show_once profile es e k l set other run a b =
 
 -- ---- why a part breaks
 
-abbrev text_of_break : Profile → ℕ → Reason → List LineByte → Open → Option EndedExchange → LineByte → List ℕ
-text_of_break p at reason items o before r =
-    (line_if_ended p (at - (length items + 1)) before ++ lines_of_open p (at - (length items + 1)) items o r.wire
-    ++ line_of_breaking at reason r (end_before items before) o.sum) ++ line_of (Verdict.No at reason)
-
-abbrev text_of_contradiction : Profile → ℕ → List Exchange → List ℕ → List ℕ → List ℕ
-text_of_contradiction p at es places line = lines_at p places 0 (at - records_in es) es ++ line ++ line_of (Verdict.No at Reason.NoRun)
-
 pub why_once : (terms : Terms) (b : BrokenPart) (v w : WhyNo) → HasRun terms.profile b.part.exchanges → IsWhy terms b v → IsWhy terms b w
     → text_of_why terms.profile v ≡ text_of_why terms.profile w
 unfolding lines_of_break
 why_once terms b (WhyNo.Break at reason tail o before r) (WhyNo.Break n x items p last s) run is also =
-    let p0 = terms.profile in
-    ap (λ m. text_of_break p0 m reason tail.items o before r) (is.0 ∙ sym also.0)
-    ∙ ap (λ y. text_of_break p0 n y tail.items o before r) (is.1 ∙ sym also.1)
-    ∙ ap (λ l. text_of_break p0 n x l o before r) (is.4 ∙ sym also.4)
-    ∙ ap (λ q. text_of_break p0 n x items.items q before r) (open_once (line_rules terms) b.part.tail o p is.5 also.5)
-    ∙ ap (λ q. text_of_break p0 n x items.items p q r) (before_once b.part.records b.part.exchanges b.part.tail before last is.6 also.6)
-    ∙ ap (λ q. text_of_break p0 n x items.items p last q) (is.3 ∙ sym also.3)
+    cc (
+      is.0 ∙ sym also.0,
+      is.1 ∙ sym also.1,
+      is.3 ∙ sym also.3,
+      is.4 ∙ sym also.4,
+      open_once (line_rules terms) b.part.tail o p is.5 also.5,
+      before_once b.part.records b.part.exchanges b.part.tail before last is.6 also.6,
+    )
 why_once terms b (WhyNo.Break at reason tail o before r) (WhyNo.Contradiction n es places k set) run is also = absurd (is.2 also.1)
 why_once terms b (WhyNo.Contradiction n es places k set) (WhyNo.Break at reason tail o before r) run is also = absurd (also.2 is.1)
 why_once terms b (WhyNo.Contradiction at es places k set) (WhyNo.Contradiction n fs others l modes) run is also =
@@ -184,8 +145,9 @@ why_once terms b (WhyNo.Contradiction at es places k set) (WhyNo.Contradiction n
     let ended : is.2 ≡ also.2 = cc in
     let exchanges : es.items ≡ b.part.exchanges ++ also.2 ∷ [] = is.4 ∙ ap (λ e. b.part.exchanges ++ e ∷ []) ended in
     let same : es.items ≡ fs.items = exchanges ∙ sym also.4 in
-    ap (λ m. text_of_contradiction p0 m es.items places.items (line_of_could_show p0 k set)) (is.0 ∙ sym also.0)
-    ∙ ap (λ q. text_of_contradiction p0 n es.items q (line_of_could_show p0 k set)) (one_contradiction p0 fs.items places.items others.items (rw same at is.5) also.5)
-    ∙ ap (λ q. text_of_contradiction p0 n q others.items (line_of_could_show p0 k set)) same
-    ∙ ap (λ q. text_of_contradiction p0 n fs.items others.items q)
-    (could_show_once p0 b.part.exchanges also.2 k l set modes run (rw exchanges at is.6) (rw also.4 at also.6))
+    cc (
+      is.0 ∙ sym also.0,
+      same,
+      one_contradiction p0 fs.items places.items others.items (rw same at is.5) also.5,
+      could_show_once p0 b.part.exchanges also.2 k l set modes run (rw exchanges at is.6) (rw also.4 at also.6),
+    )

@@ -6,7 +6,6 @@ pub use Rattle.block9.proofs.OrderLemmas.{first_before_last, first_holds, first_
 pub use Rattle.block9.proofs.StepLemmas.{still_tail, tail_short}
 pub use Rattle.block9.proofs.TailLemmas.{last_time-append}
 pub use Rattle.report9.specs.declared.why_no.EndedExchange.{EndedExchange}
-pub use Rattle.block9.specs.Command.{meaning_in, Row}
 unfoldable pub use Rattle.block9.specs.Command.{command_of}
 pub use Rattle.block9.specs.Exchange.{BeginsLate, Does, IsExchange, IsKept, IsTail, step_of, tail_after, TellsLate}
 pub use Rattle.block9.specs.declared.pairer.Step.TheVariants.{the_data as Step}
@@ -25,29 +24,19 @@ pub use Rattle.capture9.specs.Fields.{greatest_limit, most_rows}
 pub use Rattle.capture9.specs.Records.{IsPlaced, Progress, TakesRecord}
 pub use Rattle.capture9.specs.Rows.{HasHeader, rows_of, rows_within}
 pub use Rattle.capture9.specs.SomeText.{CanBeRows, IsOfSomeText}
-pub use Rattle.deck9.specs.declared.deck.Deck.{Deck}
 pub use Rattle.deck9.proofs.RunLemmas.{ends_more, ends_none, join_runs, last_joined, some_end}
 pub use Rattle.deck9.proofs.RunSearch.{run_start}
-pub use Rattle.deck9.specs.Contradict.{Passes}
-pub use Rattle.deck9.specs.Drift.{Drift}
-pub use Rattle.deck9.specs.Effect.{effect_of}
 pub use Rattle.deck9.specs.Run.{HasRun, IsRun}
-pub use Rattle.deck9.specs.declared.effect.Change.TheVariants.{SetAt}
-pub use Rattle.deck9.specs.declared.effect.Effect.TheVariants.{the_data as Effect}
 pub use Rattle.deck9.specs.declared.mode.Mode.{Mode}
-pub use Rattle.deck9.specs.declared.state.Hands.TheVariants.{the_data as Hands}
 pub use Rattle.deck9.specs.declared.state.Register.TheVariants.{the_data as Register}
 pub use Rattle.judge9.specs.Judging.{Answer, answer_of, IsAnswer, IsAnswerFrom, IsOkBefore, IsTheAnswer, moved_by}
 pub use Rattle.report9.specs.declared.verdict.Beginning.TheVariants.{the_data as Beginning}
 pub use Rattle.judge9.specs.Verdict.{Applies, AreCounts, Breaks, CanBeVerdict, counting, IsFirstBreak, IsOk, line_rules, Terms}
 pub use Rattle.why9.specs.Shown.{CouldShow}
-pub use Rattle.block9.proofs.TailLemmas.{last_time-append}
-pub use Rattle.block9.specs.Line.{last_time}
 pub use Rattle.track9.specs.Following.{KeepsEnds}
 pub use Rattle.judge9.specs.Beginning.{begins_next_part, from_command, judged_from, judged_rows, may_begin, passed_before, Rest, rest_after, takes_up_at}
 pub use Rattle.judge9.specs.Parts.{AreParts, AreTotals, BrokenPart, exchanges_of, in_parts, IsPart, number_of, Part}
 pub use Rattle.judge9.specs.Parts.{AreEvents, Event, events_by, events_in, events_of, exchanges_after, late_replies}
-pub use Rattle.block9.specs.Exchange.{records_in}
 pub use Rattle.report9.specs.WhyText.{text_of_why}
 pub use Rattle.judge9.specs.Working.Beginnings.{BeginsAfter, BeginsAt, ComesFirst, ComesThen, GivesAll, last_of, NoneBegins, PassesOver, Resumes, ResumesAfter, TakesUp}
 pub use Rattle.std.proofs.Common.{ap, arith, drop, get_or, if◌then◌else◌, inl, inr, length-append, OnOk, option_map, refl, slice_range, subst, sym, take-add}
@@ -57,11 +46,9 @@ pub use Rattle.std.proofs.Math.Seq.{take-append_seam, take-length}
 pub use Rattle.std.proofs.lemmas.Bool.{cases_lt, false≢true}
 pub use Rattle.std.proofs.lemmas.List.{append-nil, append_assoc, length-map, length_push, nil_from_length, reverse-append, reverse-reverse, take-append-drop, take-append-le, take_all, take_more}
 pub use Rattle.std.proofs.lemmas.List.Elements.{All-cons, All-nil}
-pub use Rattle.std.proofs.lemmas.Option.{slice_get_read}
 pub use Rattle.std.specs.Io.KnownBytes.{append_known}
 pub use Rattle.std.specs.Option.{ForSome, IfNone}
 pub use Rattle.std.specs.Result.{IsErrAnd}
-pub use Rattle.tc25.specs.Day.{day, time_of}
 pub use Rattle.block9.specs.declared.line_rules.LineRules.{LineRules}
 pub use Rattle.report9.proofs.WriteLemmas.{first_part, part_after}
 pub use Rattle.track9.proofs.OneKnowledge.{known_of_ends, knowledge_same}
@@ -73,16 +60,16 @@ pub use Rattle.deck9.specs.declared.mode_set.ModeSet.{ModeSet}
 pub use Rattle.report9.specs.Error.{refusal_by}
 pub use Rattle.block9.specs.Exchange.{records_in, records_of}
 pub use Rattle.report9.specs.Lines.{line_of}
-pub use Rattle.report9.specs.declared.detail.Detail.{Detail}
 pub use Rattle.judge9.specs.Working.{[], All, Appends, AppendsPart, AreReached, Bool, BreaksAtLast, Break, CanBeResult, CaptureError, CaptureKind, Cut, Ends, Err, Exchange, false, Feed, Follower}
 pub use Rattle.judge9.specs.Working.{GivesEnd, GivesRecord, GivesRefusal, Goes, IfErr, IfOk, IfSome, IsKnowledge, IsTrue, JudgeError, Knowledge, last_state, length, line_of_exchange, LineByte}
 pub use Rattle.judge9.specs.Working.{List, None, Ok, Option, Outcome, Possible, Profile, Reason, Refuses, refusal_of, Result, reverse, Rows, RunVerdict, slice_get, Some, Standing, State}
 pub use Rattle.judge9.specs.Working.{StoppedBefore, suc, take, Takes, Tracked, true, Turn, Verdict, View, zero, ℕ, ⊤}
-pub use Rattle.judge9.specs.Working.Turns.{AreOpen, BeginsReplyLate, Comes, Completes, ComesTo, EndsRows, IsFresh, IsObserved, IsOpen, KnowsNothing, Observes, Spoils, Took, Turned, Waits}
+pub use Rattle.judge9.specs.Working.Turns.{AreOpen, BeginsReplyLate, Comes, ComesTo, EndsRows, IsObserved, IsOpen, Took, Turned, Waits}
 pub use Rattle.judge9.specs.Events.{AreRead, ComesToEnd, IsRefused, IsSilent, Reached, ShowsBreak, Tells, TellsBreak, TellsExchange, TellsLate as TellsLateReply, WereGiven, WereRead}
 pub use Rattle.judge9.specs.History.{History, IsBesides, IsHistory, no_part, nothing_told, told_in}
 pub use Rattle.judge9.specs.Parts.{besides_of, TellsBesides}
-pub use Rattle.judge9.specs.Standing.{Advances, AreCounted, CanGoOn, Fits, GoesOn, GrowsBy, InPart, late_besides, IsAtBreak, IsBehind, IsMarked, IsWithin, left_of, Marks, MarksBreak, Next, ShowsExchange, Stands, StandsAt, Stops, TakesUpMarked, weight}
+pub use Rattle.judge9.specs.Standing.{Advances, AreCounted, CanGoOn, Completes, Fits, GoesOn, InPart, IsAtBreak, IsBehind, IsFresh, IsWithin, KnowsNothing, left_of, Next, Observes, ShowsExchange, Spoils, Stands, StandsAt, Stops, weight}
+pub use Rattle.judge9.specs.Working.Marking.{GrowsBy, late_besides, IsMarked, IsToldOf, Marks, MarksBreak}
 pub use Rattle.judge9.specs.Verdict.{reply_limit_of, rows_allowed, terms_for}
 pub use Rattle.judge9.specs.Working.{WhyNo}
 pub use Rattle.judge9.specs.Working.Telling.{IsEnd, IsKept as KeepsTold, IsTextOf, IsTold, Puts, SaysNoRun, SaysWhy}
@@ -90,7 +77,6 @@ pub use Rattle.judge9.specs.Why.{IsWhy, SaysLate}
 pub use Rattle.judge9.specs.Report.{AreTextsOf, by_totals, by_verdict, Ending, IsBreakText, IsEnding, IsEventText, IsPartText, IsRefusedAfter, IsToFirstBreak, IsToldText, IsToTheEnd, last_line, Told, Written}
 pub use Rattle.report9.specs.Lines.{line_of_totals}
 pub use Rattle.report9.specs.OpenRecords.{IsBefore}
-pub use Rattle.report9.specs.WhyText.{text_of_why}
 pub use Rattle.report9.specs.declared.verdict.Scope.{Scope}
 pub use Rattle.report9.specs.declared.verdict.Extent.TheVariants.{the_data as Extent}
-pub use Rattle.judge9.specs.Report.{IsEndingOf, IsText, IsToTheFault}
+pub use Rattle.judge9.specs.Report.{IsEndingOf, IsText, ToldSoFar}

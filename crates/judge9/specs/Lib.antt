@@ -1,7 +1,7 @@
 pub mod Verdict
 pub mod Judging
 pub mod Beginning
-pub mod InTime
+pub mod Retimed
 pub mod Renumbered
 pub mod Parts
 pub mod History

@@ -89,17 +89,17 @@ last_line (judged (Yes records exchanges tail)) = line_of (Yes records exchanges
 last_line (judged (No at reason)) = []
 last_line (counted totals) = line_of_totals totals
 
--- the rows have these records and no bad row, and all records were judged or passed over
-pub record IsToTheEnd (rows : Rows) (h : History) (left : Rest) : Type 0 where
-  pub all : rows ≡ record { records = h.items; fault = None }
+-- the rows have these records, and then a bad row or none, and all records were judged or passed over
+pub record IsToTheEnd (rows : Rows) (h : History) (left : Rest) (fault : Option CaptureError) : Type 0 where
+  pub all : rows ≡ record { records = h.items; fault = fault }
   pub all_judged : h.part.records ≡ left.records
   pub none_besides : h.besides ≡ []
 
 abbrev pub IsEnding : Rows → History → Rest → Ending → Type 0
 IsEnding rows h left (judged (Yes records exchanges tail)) =
-    IsToTheEnd rows h left × (h.broken ≡ []) × (records ≡ length h.part.records) × (exchanges ≡ length h.part.exchanges) × (tail ≡ length h.part.tail)
+    IsToTheEnd rows h left None × (h.broken ≡ []) × (records ≡ length h.part.records) × (exchanges ≡ length h.part.exchanges) × (tail ≡ length h.part.tail)
 IsEnding rows h left (judged (No at reason)) = (b : BrokenPart) × (h.broken ≡ b ∷ []) × (at ≡ number_of b) × (reason ≡ b.reason)
-IsEnding rows h left (counted totals) = IsToTheEnd rows h left × AreTotals (length h.items) h.broken h.part totals
+IsEnding rows h left (counted totals) = IsToTheEnd rows h left None × AreTotals (length h.items) h.broken h.part totals
 
 -- where a judging ends with the first break, nothing was told or read after it
 abbrev pub IsToFirstBreak : History → Type 0
@@ -124,19 +124,23 @@ Written extent rows h left text (Err error.Write) old new =
     AppendsPart old new text ⊎ ((end : Ending) × IsEndingOf extent end × IsEnding rows h left end × AppendsPart old new (text ++ last_line end))
 Written extent rows h left text (Err error.OutOfMemory) old new = Appends old new text
 
--- the rows that a judging speaks of, how far it came in them, and what was written. The rows are those of the text, where the reader
--- tells its bytes; else they are what it gave, and are those of some text
-pub record Told (view : View) (scope : Scope) (profile : Profile) (known : Option Rows) (result : Result Ending JudgeError) (old new : Option (List ℕ)) : Type 0 where
-  pub rows : Rows
-  pub is_known : IfSome known (λ all. rows ≡ all)
-  pub of_a_text : IfNone known (IsOfSomeText (rows_allowed scope.extent) rows)
+-- how far a judging came in these rows, and the text of what was told of them
+pub record ToldSoFar (view : View) (scope : Scope) (profile : Profile) (rows : Rows) : Type 0 where
   pub history : History
   pub start : IsStartOf history.items rows.records
   pub is_history : IsHistory (terms_for scope.extent profile) scope.beginning history
   pub first : scope.extent ≡ FirstBreak → IsToFirstBreak history
   pub text : List ℕ
   pub is_text : IsToldText view (terms_for scope.extent profile) history text
-  pub written : Written scope.extent rows history is_history.left text result old new
+
+-- the rows that a judging speaks of, how far it came in them, and what was written. The rows are those of the text, where the reader
+-- tells its bytes; else they are what it gave, and are those of some text
+pub record Told (view : View) (scope : Scope) (profile : Profile) (known : Option Rows) (result : Result Ending JudgeError) (old new : Option (List ℕ)) : Type 0 where
+  pub rows : Rows
+  pub is_known : IfSome known (λ all. rows ≡ all)
+  pub of_a_text : IfNone known (IsOfSomeText (rows_allowed scope.extent) rows)
+  pub so_far : ToldSoFar view scope profile rows
+  pub written : Written scope.extent rows so_far.history so_far.is_history.left so_far.text result old new
 
 -- the ending of a judging up to its first break, and of one over all parts
 abbrev pub by_verdict : Result Verdict JudgeError → Result Ending JudgeError
@@ -149,21 +153,9 @@ by_totals (Err e) = Err e
 
 -- ---- the whole text
 
--- the rows have these records and then a bad row, and all records were judged or passed over
-pub record IsToTheFault (rows : Rows) (h : History) (left : Rest) : Type 0 where
-  pub fault : CaptureError
-  pub all : rows ≡ record { records = h.items; fault = Some fault }
-  pub all_judged : h.part.records ≡ left.records
-  pub none_besides : h.besides ≡ []
-
 -- the whole text of a report on these rows, where nothing fails: what is told of all of them, or up to the first break, and the last
 -- line; at a bad row what is told of all records before it
 pub record IsText (view : View) (scope : Scope) (profile : Profile) (rows : Rows) (whole : List ℕ) : Type 0 where
-  pub history : History
-  pub start : IsStartOf history.items rows.records
-  pub is_history : IsHistory (terms_for scope.extent profile) scope.beginning history
-  pub first : scope.extent ≡ FirstBreak → IsToFirstBreak history
-  pub text : List ℕ
-  pub is_text : IsToldText view (terms_for scope.extent profile) history text
-  pub ends : ((end : Ending) × IsEndingOf scope.extent end × IsEnding rows history is_history.left end × (whole ≡ text ++ last_line end))
-      ⊎ (IsToTheFault rows history is_history.left × (whole ≡ text))
+  pub so_far : ToldSoFar view scope profile rows
+  pub ends : ((end : Ending) × IsEndingOf scope.extent end × IsEnding rows so_far.history so_far.is_history.left end × (whole ≡ so_far.text ++ last_line end))
+      ⊎ ((e : CaptureError) × IsToTheEnd rows so_far.history so_far.is_history.left (Some e) × (whole ≡ so_far.text))

@@ -1,28 +1,33 @@
 -- Where a judging stands between two events, and what the next one is.
-use Rattle.std.specs.Prelude.{◌≡◌, ◌⊎◌, ◌+◌, ◌*◌, ◌-◌, ◌≤◌, ◌<◌, ◌^◌, ℕ, Bool, true, false, if◌then◌else◌, List, [], ◌∷◌, ◌++◌, length, Option, Some, None, Result, Ok, Err, ⊤}
+use Rattle.std.specs.Prelude.{◌≡◌, ◌⊎◌, ◌↔◌, ◌+◌, ◌*◌, ◌-◌, ◌≤◌, ℕ, Bool, true, false, if◌then◌else◌, IsTrue, List, [], ◌∷◌, ◌++◌, length, Option, Some, None, Result, Ok, Err, ⊤}
 use Rattle.std.specs.Option.{ForSome}
 use Rattle.capture9.specs.declared.line_byte.LineByte.{LineByte}
 use Rattle.capture9.specs.Fields.{greatest_limit}
+use Rattle.capture9.specs.declared.records.Standing.TheVariants.{Reading}
 use Rattle.capture9.specs.Records.{GivesRecord, Progress}
 use Rattle.capture9.specs.Rows.{Rows}
 use Rattle.block9.specs.declared.exchange.Exchange.{Exchange}
-use Rattle.block9.specs.Exchange.{records_in, records_of}
+use Rattle.block9.specs.Exchange.{Outcome, TellsLate, records_in}
+use Rattle.block9.specs.Pairer.{Refuses, Takes}
+use Rattle.block9.specs.declared.reason.Reason.TheVariants.{NoRun}
 use Rattle.deck9.specs.declared.profile.Profile.{Profile}
 use Rattle.deck9.specs.declared.state.State.{State}
+use Rattle.deck9.specs.State.{IsFirst}
+use Rattle.deck9.specs.Step.{AreReached, Goes}
 use Rattle.track9.specs.Following.{KeepsEnds}
-use Rattle.track9.specs.Tracker.{Possible}
+use Rattle.track9.specs.Tracker.{Possible, Tracked}
 use Rattle.report9.specs.declared.totals.Totals.{Totals}
 use Rattle.report9.specs.declared.error.JudgeError.{JudgeError}
 use Rattle.report9.specs.declared.error.JudgeError.TheVariants.{OutOfMemory}
 use Rattle.report9.specs.declared.verdict.Beginning.{Beginning}
-use Rattle.report9.specs.declared.verdict.Extent.{Extent}
-use Rattle.report9.specs.declared.verdict.Extent.TheVariants.{FirstBreak, WholeCapture}
+use Rattle.report9.specs.declared.verdict.Extent.TheVariants.{FirstBreak}
 use Rattle.report9.specs.declared.verdict.Scope.{Scope}
 use Rattle.judge9.specs.declared.counts.Counts.{Counts}
 use Rattle.judge9.specs.declared.event.Break.{Break}
 use Rattle.judge9.specs.declared.event.Event.{Event}
 use Rattle.judge9.specs.declared.event.Event.TheVariants as event
 use Rattle.judge9.specs.declared.feed.Feed.{Feed}
+use Rattle.judge9.specs.declared.follower.Follower.{Follower}
 use Rattle.judge9.specs.declared.judging.Judging.{Judging}
 use Rattle.judge9.specs.declared.stage.Stage.{Stage}
 use Rattle.judge9.specs.declared.stage.Stage.TheVariants as stage
@@ -32,15 +37,48 @@ use Rattle.judge9.specs.History.{History, no_part, nothing_told, told_in}
 use Rattle.judge9.specs.Parts.{AreParts, BrokenPart, IsPart, Part, TellsBesides, events_of, exchanges_of, late_replies, number_of}
 use Rattle.judge9.specs.Parts.Event.{late_reply}
 use Rattle.judge9.specs.Verdict.{Terms, line_rules, rows_allowed, terms_for}
-use Rattle.judge9.specs.Working.Beginnings.{TakesUp}
-use Rattle.judge9.specs.Working.Turns.{IsFresh, Spoils}
+
+-- ---- what follows the records
+
+-- nothing is open, and nothing is known of the deck
+pub record KnowsNothing (terms : Terms) (f : Follower) : Type 0 where
+  pub fed_nothing : f.pairer ≡ record { tail = []; last_time = None; reason = None; exchange = None; rules = line_rules terms }
+  pub states : (s : State) → Possible f.tracker.states s ↔ IsFirst terms.profile s
+  pub profile : f.tracker.profile ≡ terms.profile
+
+-- nothing was judged yet
+pub record IsFresh {R : Type 0} (limit : ℕ) (terms : Terms) (j : Feed R) : Type 0 where
+  pub limited : j.rows.most_rows ≡ limit
+  pub none_given : j.rows.given ≡ 0
+  pub no_time : j.rows.last_time ≡ 0
+  pub is_reading : j.rows.standing ≡ Reading
+  pub knows_nothing : KnowsNothing terms j.follower
+
+-- an exchange was observed, and this is whether a state remains
+pub record Observes (old new : Tracked) (e : Exchange) (b : Bool) : Type 0 where
+  pub reached : AreReached (Possible old.states) (Goes old.profile e) (Possible new.states)
+  pub profile : new.profile ≡ old.profile
+  pub remains : IsTrue b ↔ ((s : State) × Possible new.states s)
+
+-- one that ends an exchange, and whether a state of the deck remains with it
+pub record Completes (f g : Follower) (r : LineByte) (b : Bool) : Type 0 where
+  pub exchange : Exchange
+  pub takes : Takes f.pairer r (Outcome.completes exchange) g.pairer
+  pub observes : Observes f.tracker g.tracker exchange b
+
+-- one that breaks this rule, and may begin a late reply besides: one of blocks, pairing and timing, or no state of the deck remains with
+-- its exchange
+abbrev pub Spoils : Follower → Follower → Break → Type 0
+Spoils f g b =
+    (Refuses f.pairer b.record b.reason g.pairer × (g.tracker ≡ f.tracker) × TellsLate f.pairer.rules f.pairer.tail b.record b.late)
+    ⊎ ((b.reason ≡ NoRun) × Completes f g b.record false × (b.late ≡ false))
 
 -- ---- what a judging needs to go on, whatever it judges
 
 abbrev pub CanGoOn : {R : Type 0} → Stage → Feed R → Type 0
 CanGoOn stage.Fresh j = (limit : ℕ) × (terms : Terms) × IsFresh limit terms j
 CanGoOn stage.Going j = (j.follower.pairer.reason ≡ None) × ForSome j.follower.pairer.last_time (λ time. time ≤ j.rows.last_time)
-CanGoOn {R} (stage.Besides b) j = (before : Progress R) × GivesRecord before b.record j.rows
+CanGoOn {R} (stage.LateTold b) j = (before : Progress R) × GivesRecord before b.record j.rows
 CanGoOn {R} (stage.Broken b) j = (before : Progress R) × GivesRecord before b.record j.rows
 CanGoOn stage.Ended j = ⊤
 
@@ -52,7 +90,7 @@ ShowsExchange j = ((e : Exchange) × (j.follower.pairer.exchange ≡ Some e)) ×
 abbrev pub weight : Stage → ℕ
 weight stage.Fresh = 1
 weight stage.Going = 1
-weight (stage.Besides b) = 4
+weight (stage.LateTold b) = 4
 weight (stage.Broken b) = if takes_up_at b.reason then 3 else 2
 weight stage.Ended = 0
 
@@ -123,7 +161,7 @@ pub record IsBehind {R : Type 0} (limit : ℕ) (terms : Terms) (beginning : Begi
 abbrev pub StandsAt : {R : Type 0} → ℕ → Terms → Beginning → Option Rows → History → Stage → Feed R → Type 0
 StandsAt limit terms beginning rows h stage.Fresh j = IsFresh limit terms j × (j.rows.rows ≡ rows) × (h ≡ nothing_told)
 StandsAt limit terms beginning rows h stage.Going j = IsWithin limit terms beginning rows h j
-StandsAt limit terms beginning rows h (stage.Besides b) j = IsAtBreak limit terms beginning rows h b j
+StandsAt limit terms beginning rows h (stage.LateTold b) j = IsAtBreak limit terms beginning rows h b j
 StandsAt limit terms beginning rows h (stage.Broken b) j = IsBehind limit terms beginning rows h b j
 StandsAt limit terms beginning rows h stage.Ended j = ⊥
 
@@ -176,45 +214,3 @@ Next scope profile rows h (Ok e) j = Advances scope profile rows h e j
 Next scope profile rows h (Err x) j =
     (x ≡ OutOfMemory)
     ⊎ ((front : History) × IsSilent h front × IsRefused (rows_allowed scope.extent) (terms_for scope.extent profile) scope.beginning rows front x j.feed)
-
--- ---- how it is marked
-
--- a count grows by so many, as long as it stays below `limit`
-abbrev pub GrowsBy : ℕ → ℕ → ℕ → ℕ → Type 0
-GrowsBy limit more old new = old + more < limit → new ≡ old + more
-
--- a late reply is told of a record that breaks a rule, besides its break: where the reply limit is left aside, and the record begins one
-abbrev pub late_besides : Extent → Break → Bool
-late_besides FirstBreak b = false
-late_besides WholeCapture b = b.late
-
--- what is told of a record that breaks a rule, and where the judging stands then
-abbrev pub MarksBreak : {R : Type 0} → Judging R → Break → Event → Stage → Type 0
-MarksBreak j b told at =
-    ((told ≡ event.Break b) × (at ≡ stage.Broken b) × (late_besides j.scope.extent b ≡ false))
-    ⊎ ((told ≡ event.LateReply b.record) × (at ≡ stage.Besides b) × (late_besides j.scope.extent b ≡ true))
-
--- the feed came to this event, and this is told: where the judging stands then, and what it counts
-abbrev pub Marks : {R : Type 0} → Judging R → Event → Event → Judging R → Type 0
-Marks old event.Exchange told new =
-    (told ≡ event.Exchange) × (new.stage ≡ stage.Going) × (new.counts.breaks ≡ old.counts.breaks) × GrowsBy (2 ^ 32) 1 old.counts.exchanges new.counts.exchanges
-    × ((e : Exchange) → old.feed.follower.pairer.exchange ≡ Some e → GrowsBy (2 ^ 32) (records_of e) old.counts.records new.counts.records)
-Marks old (event.LateReply r) told new =
-    (told ≡ event.LateReply r) × (new.stage ≡ stage.Going) × GrowsBy (2 ^ 64) 1 old.counts.breaks new.counts.breaks
-    × (new.counts.exchanges ≡ old.counts.exchanges) × (new.counts.records ≡ old.counts.records)
-Marks old (event.Break b) told new =
-    MarksBreak old b told new.stage × GrowsBy (2 ^ 64) 1 old.counts.breaks new.counts.breaks
-    × (new.counts.exchanges ≡ old.counts.exchanges) × (new.counts.records ≡ old.counts.records)
-Marks old event.End told new = (told ≡ event.End) × (new.stage ≡ stage.Ended) × (new.counts ≡ old.counts)
-
-pub record IsMarked {R : Type 0} (old : Judging R) (e told : Event) (new : Judging R) : Type 0 where
-  pub feed : new.feed ≡ old.feed
-  pub scope : new.scope ≡ old.scope
-  pub profile : new.profile.now ≡ old.profile.now
-  pub marks : Marks old e told new
-
--- the feed took up the next part, and this was told of it; or there was an error
-abbrev pub TakesUpMarked : {R : Type 0} → Break → Judging R → Result Event JudgeError → Judging R → Type 0
-TakesUpMarked {R} b old (Ok told) new =
-    (e : Event) × (mid : Feed R) × TakesUp (terms_for old.scope.extent old.profile.now) b old.feed (Ok e) mid × IsMarked (record old { feed = mid }) e told new
-TakesUpMarked b old (Err x) new = TakesUp (terms_for old.scope.extent old.profile.now) b old.feed (Err x) new.feed

@@ -1,6 +1,7 @@
 -- What the clauses of private functions cite, and the names from elsewhere that its parts need, passed on from here. No public
 -- contract reaches it, so no reader has to believe it.
 pub mod Beginnings
+pub mod Marking
 pub mod Reporting
 pub mod Telling
 pub mod Turns

@@ -3,9 +3,10 @@ ghost use Rattle.std.specs.Prelude.{◌≡◌, ◌≤◌, ℕ, IfOk, None, optio
 ghost use Rattle.std.specs.Option.{ForSome};
 ghost use Rattle.capture9.specs.Records.{GivesRecord, Progress};
 ghost use Rattle.capture9.specs.Rows.{rows_within};
+ghost use Rattle.judge9.specs.Standing.{IsFresh, KnowsNothing};
 ghost use Rattle.judge9.specs.Verdict.{Terms, reply_limit_of, rows_allowed, terms_for};
 ghost use Rattle.judge9.specs.Working.Beginnings.{BeginsAfter, ComesFirst, TakesUp};
-ghost use Rattle.judge9.specs.Working.Turns.{ComesTo, IsFresh, KnowsNothing};
+ghost use Rattle.judge9.specs.Working.Turns.{ComesTo};
 
 use crate::beginning::{begins_next_part, pass_over};
 use crate::event::{Break, Event};
@@ -87,14 +88,23 @@ impl<'a, R: Read + Drop> Feed<'a, R> {
         }
     }
 
+    /// As `next`, at the beginning of a part.
+    #[inline(never)] // so that the loop over rows stands once in `Judging::next`, which else is too large to be inlined
+    fn next_apart(&mut self) -> Result<Event, JudgeError>
+        requires no_reason { self.old.follower.pairer.reason ≡ None }
+        requires in_order { ForSome self.old.follower.pairer.last_time (λ time. time ≤ self.old.rows.last_time) }
+        ensures { ComesTo self.old result self.new }
+    {
+        self.next()
+    }
+
     /// Comes to the first event of a capture of which nothing was judged yet, from this beginning on. Errors are those of `next`.
-    #[inline(always)] // else the event would be handed on through memory
     pub(crate) fn first(&mut self, beginning: Beginning) -> Result<Event, JudgeError>
         requires { (limit : ℕ) × (terms : Terms) × IsFresh limit terms self.old }
         ensures { (limit : ℕ) (terms : Terms) → IsFresh limit terms self.old → ComesFirst terms beginning self.old result self.new }
     {
         match beginning {
-            Beginning::FirstRecord => self.next(),
+            Beginning::FirstRecord => self.next_apart(),
             Beginning::FirstCommand => match pass_over(&mut self.rows, None)? {
                 Some(first) => self.begin(first),
                 None => Ok(Event::End),
@@ -133,7 +143,7 @@ impl<'a, R: Read + Drop> Feed<'a, R> {
     {
         match self.follower.take(first)? {
             Some(event) => Ok(event),
-            None => self.next(),
+            None => self.next_apart(),
         }
     }
 }

@@ -3,7 +3,8 @@ ghost use Rattle.std.specs.Prelude.{◌≡◌, ◌≤◌, IfOk, None, OnOk};
 ghost use Rattle.std.specs.Option.{ForSome};
 ghost use Rattle.block9.specs.declared.exchange.Exchange.{Exchange as AnExchange};
 ghost use Rattle.judge9.specs.Verdict.{line_rules, terms_of};
-ghost use Rattle.judge9.specs.Working.Turns.{IsObserved, KnowsNothing, Took};
+ghost use Rattle.judge9.specs.Standing.{KnowsNothing};
+ghost use Rattle.judge9.specs.Working.Turns.{IsObserved, Took};
 
 use crate::event::{Break, Event};
 use block9::{Exchange, LineRules, Pairer, Reason, ReplyLimit, Step};

@@ -1,6 +1,6 @@
 //! The judging of a capture, as a reading of events.
 ghost use Rattle.std.specs.Prelude.{◌≡◌};
-ghost use Rattle.judge9.specs.Standing.{late_besides};
+ghost use Rattle.judge9.specs.Working.Marking.{late_besides};
 
 use crate::counts::Counts;
 use crate::event::{Break, Event};
@@ -43,9 +43,9 @@ impl<'a, R: Read + Drop> Judging<'a, R> {
     ghost use Rattle.deck9.specs.declared.state.State.{State as AState};
     ghost use Rattle.track9.specs.Tracker.{Possible};
     ghost use Rattle.judge9.specs.History.{History, nothing_told};
-    ghost use Rattle.judge9.specs.Standing.{CanGoOn, GrowsBy, IsMarked, Next, ShowsExchange, Stands, TakesUpMarked, left_of, totals_of};
+    ghost use Rattle.judge9.specs.Standing.{CanGoOn, Next, ShowsExchange, Stands, left_of, totals_of};
     ghost use Rattle.judge9.specs.Verdict.{rows_allowed, terms_for};
-    ghost use Rattle.judge9.specs.Working.Beginnings.{TakesUp};
+    ghost use Rattle.judge9.specs.Working.Marking.{GrowsBy, IsMarked, IsToldOf};
     ghost use Rattle.judge9.specs.declared.event.Break.{Break as ABreak};
     ghost use Rattle.judge9.specs.declared.event.Event.TheVariants as AnEvent;
     ghost use Rattle.judge9.specs.declared.stage.Stage.TheVariants as AStage;
@@ -99,40 +99,42 @@ impl<'a, R: Read + Drop> Judging<'a, R> {
         ensures shows { result ≡ Ok AnEvent.Exchange → ShowsExchange self.new.feed }
         ensures broke { (b : ABreak) → result ≡ Ok (AnEvent.Break b) → self.new.stage ≡ AStage.Broken b }
         ensures closer { IfOk result (λ e. (e ≡ AnEvent.End) ⊎ (left_of self.new < left_of self.old)) }
+        ensures ended { self.old.stage ≡ AStage.Ended → (result ≡ Ok AnEvent.End) × (self.new ≡ self.old) }
         ensures over { (b : ABreak) → self.old.scope.extent ≡ AnExtent.FirstBreak → self.old.stage ≡ AStage.Broken b
             → (result ≡ Ok AnEvent.End) × (self.new ≡ self.old) }
         ensures same { (self.new.scope ≡ self.old.scope) × (self.new.profile.now ≡ self.old.profile.now) }
     {
         match self.stage {
             Stage::Going => {
-                let event = self.feed.next()?;
-                Ok(self.mark(event))
+                let came = self.feed.next();
+                self.tell(came)
             }
             Stage::Fresh => {
-                let event = self.feed.first(self.scope.beginning)?;
-                Ok(self.mark(event))
+                let came = self.feed.first(self.scope.beginning);
+                self.tell(came)
             }
-            Stage::Besides(broken) => Ok(self.mark_break(broken)),
-            Stage::Broken(broken) => self.take_up(broken),
+            Stage::LateTold(broken) => Ok(self.mark_break(broken)),
+            Stage::Broken(broken) => match self.scope.extent {
+                Extent::FirstBreak => Ok(Event::End),
+                Extent::WholeCapture => {
+                    let (alloc, extent) = (self.alloc, Extent::WholeCapture);
+                    let came = self.feed.take_up(alloc, extent, self.profile, broken);
+                    self.tell(came)
+                }
+            },
             Stage::Ended => Ok(Event::End),
         }
     }
 
-    /// What comes after a break: the end, or the first event of the next part.
-    fn take_up(&mut self, broken: Break) -> Result<Event, JudgeError>
-        requires { CanGoOn (AStage.Broken broken) self.old.feed }
-        ensures first { self.old.scope.extent ≡ AnExtent.FirstBreak → (result ≡ Ok AnEvent.End) × (self.new ≡ self.old) }
-        ensures parts { self.old.scope.extent ≡ AnExtent.WholeCapture → TakesUpMarked broken self.old result self.new }
-        ensures same { (self.new.scope ≡ self.old.scope) × (self.new.profile.now ≡ self.old.profile.now) }
+    /// What is told of what the feed came to: the judging is marked with an event, and an error is handed on.
+    #[inline(always)] // it is done with every exchange
+    fn tell(&mut self, came: Result<Event, JudgeError>) -> Result<Event, JudgeError>
+        requires shows { came ≡ Ok AnEvent.Exchange → ShowsExchange self.old.feed }
+        ensures { IsToldOf self.old came result self.new }
     {
-        match self.scope.extent {
-            Extent::FirstBreak => Ok(Event::End),
-            Extent::WholeCapture => {
-                let event = self
-                    .feed
-                    .take_up(self.alloc, Extent::WholeCapture, self.profile, broken)?;
-                Ok(self.mark(event))
-            }
+        match came {
+            Ok(event) => Ok(self.mark(event)),
+            Err(error) => Err(error),
         }
     }
 
@@ -165,7 +167,7 @@ impl<'a, R: Read + Drop> Judging<'a, R> {
     {
         if late_besides(self.scope.extent, broken) {
             self.counts.breaks = self.counts.breaks.saturating_add(1);
-            self.stage = Stage::Besides(broken);
+            self.stage = Stage::LateTold(broken);
             return Event::LateReply(broken.record);
         }
         self.mark_break(broken)

@@ -11,7 +11,7 @@ ghost use Rattle.judge9.specs.Renumbered.{renumbered_break, renumbered_part, ren
 ghost use Rattle.judge9.specs.Judging.{Answer, IsAnswer};
 ghost use Rattle.judge9.specs.Judging.Answer.{judged};
 ghost use Rattle.judge9.specs.Report.{IsText, Told, by_verdict};
-ghost use Rattle.judge9.specs.InTime.{AreSameBlocks, AreSameParts, ComeInTime, IsSamePart, late_at};
+ghost use Rattle.judge9.specs.Retimed.{AreRetimed, AreSameParts, IsSamePart, NoneIsLate, untimed};
 ghost use Rattle.judge9.specs.Parts.{AreParts, AreTotals, BrokenPart, Event, IsPart, Part, events_of, in_parts, late_replies, number_of};
 ghost use Rattle.judge9.specs.Parts.Event.{late_reply};
 ghost use Rattle.judge9.specs.Verdict.{AreCounts, Breaks, IsFirstBreak, IsOk, Terms, counting, line_rules};
@@ -148,17 +148,21 @@ pub fn each_part_is_a_no()
         → AreParts (in_parts profile) (record { past = 0; records = items }) (b ∷ broken) left → IsFirstBreak (in_parts profile) items (number_of b) b.reason }
 {}
 
-/// A late reply is late, and nothing else: where each one comes at the reply limit, and every other record as long after the one
-/// before it as it did, the parts break at the same records and for the same reasons, their exchanges have the same blocks, no reply
-/// is late, and of the totals only the breaks differ. What is known of the deck after exchanges with the same blocks is the same. A
-/// capture, in which times never fall, has such another one.
+/// How long after its command a reply begins decides whether it is late, and nothing else. Where the records of a capture come at
+/// other times, but in the same order, and those that follow one another on one wire as far apart as they did, the parts break at the
+/// same records and for the same reasons, their exchanges have the same blocks, and of the totals only the breaks differ, by the late
+/// replies. What is known of the deck after exchanges with the same blocks is the same. No reply is late where no record of the deck
+/// comes later than the reply limit after one of the controller. A capture, in which times never fall, has such other times.
 pub fn a_late_reply_is_nothing_else()
-    ensures same { (profile : Profile) (items moved : List LineByte) (broken : List BrokenPart) (left : Rest) (last : Part) (totals : Totals)
+    ensures same { (profile : Profile) (items others : List LineByte) (broken : List BrokenPart) (left : Rest) (last : Part) (totals : Totals)
         → AreParts (in_parts profile) (record { past = 0; records = items }) broken left → IsPart (in_parts profile) last → last.past ≡ left.past → last.records ≡ left.records
-        → AreTotals (length items) broken last totals → ComeInTime (late_at (events_of broken ++ last.events)) 0 0 0 items moved
-        → (others : List BrokenPart) × (behind : Rest) × (end : Part) × AreParts (in_parts profile) (record { past = 0; records = moved }) others behind × IsPart (in_parts profile) end
-        × (end.past ≡ behind.past) × (end.records ≡ behind.records) × AreSameParts broken others × IsSamePart last end
-        × AreTotals (length moved) others end (record totals { breaks = length broken }) }
-    ensures known { (profile : Profile) (es fs : List Exchange) → AreSameBlocks es fs → (s : State) → Ends profile es s ↔ Ends profile fs s }
-    ensures there_is_one { (late : ℕ → ℕ) (items : List LineByte) → IsNonDecreasingBy (λ r. r.time_us) items → (moved : List LineByte) × ComeInTime late 0 0 0 items moved }
+        → AreTotals (length items) broken last totals → AreRetimed items others
+        → (parts : List BrokenPart) × (behind : Rest) × (end : Part) × AreParts (in_parts profile) (record { past = 0; records = others }) parts behind × IsPart (in_parts profile) end
+        × (end.past ≡ behind.past) × (end.records ≡ behind.records) × AreSameParts broken parts × IsSamePart last end
+        × AreTotals (length others) parts end (record totals { breaks = length broken + late_replies (events_of parts ++ end.events) }) }
+    ensures known { (profile : Profile) (es fs : List Exchange) → map untimed es ≡ map untimed fs → (s : State) → Ends profile es s ↔ Ends profile fs s }
+    ensures in_time { (profile : Profile) (items : List LineByte) (broken : List BrokenPart) (left : Rest) (last : Part)
+        → AreParts (in_parts profile) (record { past = 0; records = items }) broken left → IsPart (in_parts profile) last → last.records ≡ left.records → NoneIsLate items
+        → late_replies (events_of broken ++ last.events) ≡ 0 }
+    ensures there_is_one { (items : List LineByte) → IsNonDecreasingBy (λ r. r.time_us) items → (others : List LineByte) × AreRetimed items others × NoneIsLate others }
 {}

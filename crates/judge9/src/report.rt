@@ -6,7 +6,7 @@ ghost use Rattle.judge9.specs.History.{nothing_told};
 ghost use Rattle.judge9.specs.Judging.{Answers};
 ghost use Rattle.judge9.specs.Report.{Told, by_totals, by_verdict};
 ghost use Rattle.judge9.specs.Standing.{CanGoOn, Stands};
-ghost use Rattle.judge9.specs.Working.Reporting.{IsAllTold, JudgesParts, JudgesVerdict, verdict_of};
+ghost use Rattle.judge9.specs.Working.Reporting.{IsAllTold, Judged, verdict_of};
 ghost use Rattle.report9.specs.declared.verdict.Extent.TheVariants as AnExtent;
 
 use crate::event::Event;
@@ -159,7 +159,11 @@ fn tell_all<'a, R: Read + Drop, W: Write>(
     'events: loop {
         match judging.next()? {
             Event::End => return Ok(()),
-            event => telling.tell(judging, event, writer)?,
+            event => {
+                if !telling.is_silent(event) {
+                    telling.tell(judging, event, writer)?;
+                }
+            }
         }
     }
 }
@@ -175,7 +179,7 @@ fn tell_verdict<'a, R: Read + Drop, W: Write>(
     requires ready { CanGoOn judging.old.stage judging.old.feed }
     requires same { telling.old.profile.now ≡ judging.old.profile.now }
     requires none_kept { (telling.old.kept.exchanges.items ≡ []) × (telling.old.kept.end_us ≡ None) }
-    ensures { JudgesVerdict telling.old.view judging.old.scope judging.old.profile.now judging.old.feed.rows.rows result (W.contents writer.old) (W.contents writer.new) }
+    ensures { Judged telling.old.view judging.old.scope judging.old.profile.now judging.old.feed.rows.rows (by_verdict result) (W.contents writer.old) (W.contents writer.new) }
 {
     tell_all(judging, telling, writer)?;
     let verdict = verdict_of(judging);
@@ -198,7 +202,7 @@ pub(crate) fn verdict_of<R: Read + Drop>(judging: &Judging<R>) -> Verdict
             reason: broken.reason,
         },
         None => Verdict::Yes {
-            records: judging.counts.records.saturating_add(totals.tail),
+            records: totals.records.saturating_sub(totals.passed_over),
             exchanges: totals.exchanges,
             tail: totals.tail,
         },
@@ -216,7 +220,7 @@ fn tell_totals<'a, R: Read + Drop, W: Write>(
     requires ready { CanGoOn judging.old.stage judging.old.feed }
     requires same { telling.old.profile.now ≡ judging.old.profile.now }
     requires none_kept { (telling.old.kept.exchanges.items ≡ []) × (telling.old.kept.end_us ≡ None) }
-    ensures { JudgesParts telling.old.view judging.old.scope judging.old.profile.now judging.old.feed.rows.rows result (W.contents writer.old) (W.contents writer.new) }
+    ensures { Judged telling.old.view judging.old.scope judging.old.profile.now judging.old.feed.rows.rows (by_totals result) (W.contents writer.old) (W.contents writer.new) }
 {
     tell_all(judging, telling, writer)?;
     let totals = judging.totals();

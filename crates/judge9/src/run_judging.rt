@@ -8,11 +8,12 @@ ghost use Rattle.judge9.specs.Standing.{CanGoOn, Stands};
 ghost use Rattle.judge9.specs.Working.Reporting.{JudgesRun, KeepsAll};
 ghost use Rattle.report9.specs.declared.verdict.Extent.TheVariants as AnExtent;
 
-use crate::event::{Break, Event};
+use crate::event::Event;
 use crate::judging::Judging;
 use crate::kept::Kept;
+use crate::report::verdict_of;
 use deck9::{Profile, Register};
-use report9::{Beginning, Extent, JudgeError, RunVerdict, Scope};
+use report9::{Beginning, Extent, JudgeError, RunVerdict, Scope, Verdict};
 use run9::{Pace, states_of_run};
 use sets25::SpanSet;
 use std::alloc::Global;
@@ -71,33 +72,32 @@ fn find_run<R: Read + Drop>(
     let profile = judging.profile;
     let mut kept = Kept::new(alloc);
     let mut spans = 0;
-    if let Some(broken) = keep_all(judging, &mut kept, &mut spans)? {
-        return Ok(RunVerdict::No {
-            at: judging.at(),
-            reason: broken.reason,
-        });
+    keep_all(judging, &mut kept, &mut spans)?;
+    match verdict_of(judging) {
+        Verdict::No { at, reason } => Ok(RunVerdict::No { at, reason }),
+        Verdict::Yes { records, tail, .. } => {
+            let exchanges = kept.exchanges;
+            let pace = Pace::of(exchanges.len(), spans);
+            let tracker = &judging.feed.follower.tracker;
+            let states = states_of_run(alloc, profile, &exchanges, tracker, pace)?;
+            Ok(RunVerdict::Yes {
+                past: judging.totals().passed_over,
+                records,
+                tail,
+                exchanges,
+                states,
+            })
+        }
     }
-    let exchanges = kept.exchanges;
-    let pace = Pace::of(exchanges.len(), spans);
-    let tracker = &judging.feed.follower.tracker;
-    let states = states_of_run(alloc, profile, &exchanges, tracker, pace)?;
-    let totals = judging.totals();
-    Ok(RunVerdict::Yes {
-        past: totals.passed_over,
-        records: judging.counts.records.saturating_add(totals.tail),
-        tail: totals.tail,
-        exchanges,
-        states,
-    })
 }
 
-/// Keeps the exchanges up to the first break, which is answered, or to the end. `spans` gets about how many spans of times the
-/// tracker had when it had most: it bears on speed and memory alone.
+/// Keeps the exchanges up to the end, which comes behind the first break or behind the rows. `spans` gets about how many spans of
+/// times the tracker had when it had most: it bears on speed and memory alone.
 fn keep_all<R: Read + Drop>(
     judging: &mut Judging<R>,
     kept: &mut Kept,
     spans: &mut usize,
-) -> Result<Option<Break>, JudgeError>
+) -> Result<(), JudgeError>
     requires first { judging.old.scope.extent ≡ AnExtent.FirstBreak }
     requires stands { Stands judging.old.scope judging.old.profile.now judging.old.feed.rows.rows nothing_told judging.old }
     requires ready { CanGoOn judging.old.stage judging.old.feed }
@@ -110,9 +110,8 @@ fn keep_all<R: Read + Drop>(
                 kept.keep(judging)?;
                 *spans = most_spans(*spans, kept.exchanges.len(), &judging.feed.follower.tracker);
             }
-            Event::LateReply(_) => {}
-            Event::Break(broken) => return Ok(Some(broken)),
-            Event::End => return Ok(None),
+            Event::End => return Ok(()),
+            _ => {}
         }
     }
 }

@@ -9,8 +9,8 @@ pub enum Stage {
     Fresh,
     /// A part goes on.
     Going,
-    /// This record breaks the part; so far only the late reply was told that it begins besides.
-    Besides(Break),
+    /// This record begins a late reply, which was told, and breaks the part, which is told next.
+    LateTold(Break),
     /// A part broke.
     Broken(Break),
     /// The rows came to their end.

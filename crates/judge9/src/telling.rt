@@ -1,10 +1,12 @@
 //! What is told of a judging, event by event.
-ghost use Rattle.std.specs.Prelude.{◌≡◌, ◌++◌, ◌∷◌, [], IfOk, List, None, OnOk, Some, ℕ};
+ghost use Rattle.std.specs.Prelude.{◌≡◌, ◌++◌, ◌∷◌, [], IfOk, IsTrue, List, None, OnOk, Some, ℕ};
 ghost use Rattle.block9.specs.declared.exchange.Exchange.{Exchange as AnExchange};
 ghost use Rattle.judge9.specs.Standing.{ShowsExchange};
 ghost use Rattle.judge9.specs.Working.Telling.{IsKept, IsTextOf, IsTold};
 ghost use Rattle.judge9.specs.declared.event.Break.{Break as ABreak};
 ghost use Rattle.judge9.specs.declared.event.Event.TheVariants as AnEvent;
+ghost use Rattle.report9.specs.Lines.{line_of};
+ghost use Rattle.report9.specs.declared.verdict.Verdict.TheVariants as AVerdict;
 ghost use Rattle.report9.specs.declared.verdict.View.TheVariants as AView;
 ghost use Rattle.why9.specs.Contradiction.{BreaksAtLast};
 
@@ -49,6 +51,14 @@ impl<'a> Telling<'a> {
             line: Vec::new(alloc),
             kept: Kept::new(alloc),
         }
+    }
+
+    /// Whether nothing is told of this event, nor kept: an exchange, for a verdict. Most captures are judged for one.
+    #[inline(always)]
+    pub(crate) fn is_silent(&self, event: Event) -> bool
+        ensures { IsTrue result → (self.now.view ≡ AView.Verdict) × (event ≡ AnEvent.Exchange) }
+    {
+        matches!((self.view, event), (View::Verdict, Event::Exchange))
     }
 
     /// Tells of the event that the judging came to last. Its text is made before any of it is written.
@@ -156,16 +166,7 @@ impl<'a> Telling<'a> {
                 let why = why_late(self.alloc, judging, first)?;
                 put_why_for(&mut self.line, self.profile, &why)
             }
-            _ => {
-                let reason = Reason::LateReply;
-                put_verdict_line(
-                    &mut self.line,
-                    Verdict::No {
-                        at: judging.at(),
-                        reason,
-                    },
-                )
-            }
+            _ => put_no(&mut self.line, judging.at(), Reason::LateReply),
         }
     }
 
@@ -210,16 +211,14 @@ impl<'a> Telling<'a> {
                 let why = why_of(self.alloc, judging, kept, broken)?;
                 put_why_for(&mut self.line, self.profile, &why)
             }
-            _ => {
-                let reason = broken.reason;
-                put_verdict_line(
-                    &mut self.line,
-                    Verdict::No {
-                        at: judging.at(),
-                        reason,
-                    },
-                )
-            }
+            _ => put_no(&mut self.line, judging.at(), broken.reason),
         }
     }
+}
+
+/// Puts the line of a no at this record.
+fn put_no(line: &mut Vec<u8>, at: u32, reason: Reason) -> Result<(), AllocError>
+    ensures { OnOk result (line.new.items ≡ line.old.items ++ line_of (AVerdict.No at reason)) }
+{
+    put_verdict_line(line, Verdict::No { at, reason })
 }

@@ -6,7 +6,8 @@ use Rattle.judge9.specs.Working.{[], Beginning, Break, CaptureError, Err, false,
 use Rattle.judge9.specs.Working.{refusal_of, Result, Some, true, Turn, ⊤}
 use Rattle.judge9.specs.Beginning.{begins_next_part, may_begin}
 use Rattle.judge9.specs.Verdict.{Terms}
-use Rattle.judge9.specs.Working.Turns.{Comes, ComesTo, KnowsNothing}
+use Rattle.judge9.specs.Standing.{KnowsNothing}
+use Rattle.judge9.specs.Working.Turns.{Comes, ComesTo}
 
 -- these records were given, one after another
 abbrev pub GivesAll : {R : Type 0} → Progress R → List LineByte → Progress R → Type 0

@@ -1,24 +1,9 @@
 -- What a judging comes to next: what rows do to those that are still to come, and their records to what follows them.
-use Rattle.std.specs.Prelude.{◌↔◌, ◌≡◌, ◌⊎◌}
+use Rattle.std.specs.Prelude.{◌≡◌, ◌⊎◌}
 use Rattle.std.specs.declared.alloc.AllocError.{AllocError}
-use Rattle.block9.specs.Exchange.{TellsLate}
-use Rattle.judge9.specs.Verdict.{Terms, line_rules}
-use Rattle.judge9.specs.Working.{[], AreReached, Bool, Break, CaptureError, Err, Exchange, Goes, false, Follower, GivesEnd, GivesRecord, GivesRefusal, IsFirst, IsTrue, JudgeError}
-use Rattle.judge9.specs.Working.{Feed, LineByte, None, Ok, Option, Possible, Reason, refusal_of, Refuses, Result, Some, Standing, State, Outcome, suc, Takes, Tracked, true, Turn, zero, ℕ, ⊤}
-
--- nothing is open, and nothing is known of the deck
-pub record KnowsNothing (terms : Terms) (f : Follower) : Type 0 where
-  pub fed_nothing : f.pairer ≡ record { tail = []; last_time = None; reason = None; exchange = None; rules = line_rules terms }
-  pub states : (s : State) → Possible f.tracker.states s ↔ IsFirst terms.profile s
-  pub profile : f.tracker.profile ≡ terms.profile
-
--- nothing was judged yet
-pub record IsFresh {R : Type 0} (limit : ℕ) (terms : Terms) (j : Feed R) : Type 0 where
-  pub limited : j.rows.most_rows ≡ limit
-  pub none_given : j.rows.given ≡ 0
-  pub no_time : j.rows.last_time ≡ 0
-  pub is_reading : j.rows.standing ≡ Standing.Reading
-  pub knows_nothing : KnowsNothing terms j.follower
+use Rattle.judge9.specs.Standing.{Completes, Observes, Spoils}
+use Rattle.judge9.specs.Working.{CaptureError, Err, Exchange, false, Follower, GivesEnd, GivesRecord, GivesRefusal, JudgeError}
+use Rattle.judge9.specs.Working.{Feed, LineByte, None, Ok, Option, Reason, refusal_of, Result, Some, Outcome, suc, Takes, Tracked, true, Turn, zero, ℕ, ⊤}
 
 -- ---- a record
 
@@ -28,12 +13,6 @@ IsOpen Outcome.leaves_open = ⊤
 IsOpen Outcome.answers_late = ⊥
 IsOpen Outcome.asks = ⊤
 IsOpen (Outcome.completes e) = ⊥
-
--- an exchange was observed, and this is whether a state remains
-pub record Observes (old new : Tracked) (e : Exchange) (b : Bool) : Type 0 where
-  pub reached : AreReached (Possible old.states) (Goes old.profile e) (Possible new.states)
-  pub profile : new.profile ≡ old.profile
-  pub remains : IsTrue b ↔ ((s : State) × Possible new.states s)
 
 -- what the tracker makes of an exchange that ends with this record
 abbrev pub IsObserved : Tracked → Exchange → LineByte → Result (Option Turn) AllocError → Tracked → Type 0
@@ -53,19 +32,6 @@ pub record Waits (f g : Follower) (r : LineByte) : Type 0 where
   pub takes : Takes f.pairer r outcome g.pairer
   pub is_open : IsOpen outcome
   pub same_tracker : g.tracker ≡ f.tracker
-
--- one that ends an exchange, and whether a state of the deck remains with it
-pub record Completes (f g : Follower) (r : LineByte) (b : Bool) : Type 0 where
-  pub exchange : Exchange
-  pub takes : Takes f.pairer r (Outcome.completes exchange) g.pairer
-  pub observes : Observes f.tracker g.tracker exchange b
-
--- one that breaks this rule, and may begin a late reply besides: one of blocks, pairing and timing, or no state of the deck remains with
--- its exchange
-abbrev pub Spoils : Follower → Follower → Break → Type 0
-Spoils f g b =
-    (Refuses f.pairer b.record b.reason g.pairer × (g.tracker ≡ f.tracker) × TellsLate f.pairer.rules f.pairer.tail b.record b.late)
-    ⊎ ((b.reason ≡ Reason.NoRun) × Completes f g b.record false × (b.late ≡ false))
 
 -- what a record comes to that was taken
 abbrev pub Took : Follower → LineByte → Result (Option Turn) AllocError → Follower → Type 0

@@ -124,7 +124,7 @@ const CAPTURES: &[(&[&str], &[&str], (u32, u32, u32, u32))] = &[
     (&[REMOTE, "C 20 01 21"], &["D 10 01 11", PLAY], (2, 1, 1, 0)),
     // A wrong sum in the middle: the part ends, and the next begins with the PLAY after it.
     (&[REMOTE, "C 20 01 22 D 10 01 11", PLAY], &[], (1, 1, 0, 1)),
-    // A late reply that is none: it is late, and then its group ends the part.
+    // A late reply with a wrong group: it is late, and then its group ends the part.
     (&["C 20 01 21"], &["D 20 01 21", PLAY, REMOTE], (1, 1, 1, 1)),
     // The last exchange leaves no run, so it is none of those that are met.
     (&[REMOTE, LOCAL], &[], (0, 1, 0, 1)),
@@ -157,5 +157,37 @@ fn the_events_from_the_first_command_on(rt: HostRuntime) -> Result<(), AllocErro
     let (all, begun) = (Met::new(1, 0, 0, 1), Met::new(1, 0, 0, 0));
     tell_met(&rt, rt.alloc(), &tap.text, Beginning::FirstRecord, all);
     tell_met(&rt, rt.alloc(), &tap.text, Beginning::FirstCommand, begun);
+    Ok(())
+}
+
+/// The first three events.
+fn three_events<R: Read + Drop>(
+    judging: &mut Judging<R>,
+) -> Result<(Event, Event, Event), JudgeError>
+    requires { CanGoOn judging.old.stage judging.old.feed }
+{
+    let first = judging.next()?;
+    let second = judging.next()?;
+    let third = judging.next()?;
+    Ok((first, second, third))
+}
+
+/// A capture that breaks, judged up to its first break and over all: behind the end comes the end.
+#[test]
+fn behind_the_end(rt: HostRuntime) -> Result<(), AllocError> {
+    for extent in [Extent::FirstBreak, Extent::WholeCapture] {
+        let mut tap = Tap::new(rt.alloc())?;
+        tap.put("C 20 01 22")?;
+        let profile = Profile::of(Hands::None);
+        let scope = Scope {
+            extent,
+            beginning: Beginning::FirstRecord,
+        };
+        let mut judging = Judging::new(rt.alloc(), tap.text.as_bytes(), scope, &profile)?;
+        let events = three_events(&mut judging);
+        drop(judging);
+        let are_so = matches!(events, Ok((Event::Break(_), Event::End, Event::End)));
+        same(&rt, are_so, true, extent);
+    }
     Ok(())
 }

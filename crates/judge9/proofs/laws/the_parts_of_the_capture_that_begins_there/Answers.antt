@@ -1,7 +1,8 @@
 use Rattle.judge9.proofs.Words.{AreTotals, arith, judged_from, subst, ◌+◌, ◌≡◌}
 use Rattle.std.specs.Prelude.{map}
 use Rattle.judge9.specs.Renumbered.{renumbered_break, renumbered_part, renumbered_totals}
-use Rattle.judge9.proofs.Numbering.{judged_size, part_renumbered, parts_renumbered, totals_renumbered}
+use Rattle.judge9.proofs.PartSteps.{judged_size}
+use Rattle.judge9.proofs.Numbering.{part_renumbered, parts_renumbered, totals_renumbered}
 use Rattle.judge9.proofs.laws.the_parts_of_the_capture_that_begins_there.Goals as goal
 
 pub returns : goal.returns

@@ -1,11 +1,10 @@
-use Rattle.judge9.proofs.Words.{sym, ◌∙◌}
+use Rattle.judge9.proofs.Words.{refl, sym, ◌∙◌}
 use Rattle.judge9.proofs.report.verdict_of.Goals as goal
-use Rattle.judge9.proofs.Endings.{broken_is, not_broken_is}
+use Rattle.judge9.specs.Standing.{totals_of}
+use Rattle.judge9.proofs.Endings.{not_broken}
 
 pub returns-in-Some : goal.returns-in-Some
-returns-in-Some g c = broken_is c.args.judging.now c.totals-totals.result c.in-Some.broken c.totals-totals.ensures ((c.broken.ensures c.in-Some.broken).0 c.in-Some.is)
+returns-in-Some g c = rw (c.totals-totals.ensures, (c.broken.ensures c.in-Some.broken).0 c.in-Some.is) refl
 
 pub returns-in-None : goal.returns-in-None
-returns-in-None g c =
-    not_broken_is c.args.judging.now c.totals-totals.result c.saturating_add.result c.totals-totals.ensures c.saturating_add.ensures
-    (λ b at. let some = sym c.in-None.is ∙ (c.broken.ensures b).1 at in cc)
+returns-in-None g c = rw (c.saturating_sub.ensures, c.totals-totals.ensures) (not_broken (totals_of c.args.judging.now) c.args.judging.now.stage (λ b at. let some = sym c.in-None.is ∙ (c.broken.ensures b).1 at in cc))

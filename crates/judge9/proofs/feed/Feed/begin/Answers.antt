@@ -7,4 +7,4 @@ returns-in-Some g c = λ before gives.
 
 pub returns-in-None : goal.returns-in-None
 returns-in-None g c = λ before gives.
-    inr (inr (_, record { gives = gives; took = rw c.in-None.is at c.in_ok-event.ensures }, c.next.ensures))
+    inr (inr (_, record { gives = gives; took = rw c.in-None.is at c.in_ok-event.ensures }, c.next_apart.ensures))
