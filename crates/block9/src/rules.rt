@@ -78,6 +78,7 @@ fn begin(
     ensures ok { IfOk result (λ turned. (early_fault limit (place_of tail.now) tail.now line_byte ≡ None) × IsTurned tail.now block line_byte turned) }
     ensures err { IfErr result (λ reason. early_fault limit (place_of tail.now) tail.now line_byte ≡ Some reason) }
 {
+    // as `is_late`, of a block that is not begun: the wire whose turn it is tells the place
     let late = match block.wire {
         Wire::Controller => false,
         Wire::Deck => !is_soon(tail, line_byte),

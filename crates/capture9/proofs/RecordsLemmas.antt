@@ -1,6 +1,6 @@
 -- What the reading of one CSV record does to a `Records`, as its callers see it.
-use Rattle.capture9.proofs.Words.{arith, bad_row, CanShow, CaptureError, CaptureKind, Err, false, GivesRecord, GivesRefusal, greatest_limit, HasHeader, HoldsInRecords, IfSome, is_of_text, is_past_header, IsAfter}
-use Rattle.capture9.proofs.Words.{IsAtItsRow, IsPlaced, IsTrue, length, LineByte, List, nat_tests, nil_from_length, None, Ok, Option, option_map, Progress, Reader, refl, row_fault, row_of}
+use Rattle.capture9.proofs.Words.{arith, bad_row, CanShow, CaptureError, CaptureKind, Err, false, GivesRecord, GivesRefusal, greatest_limit, HasHeader, HoldsInRecords, IfErr, IfSome, is_of_text, is_past_header, IsAfter}
+use Rattle.capture9.proofs.Words.{IsAtItsRow, IsPlaced, IsTrue, length, LineByte, List, nat_tests, nil_from_length, None, Ok, Option, option_map, Progress, Reader, refl, Result, row_fault, row_of}
 use Rattle.capture9.proofs.Words.{rows_from, rows_to_come, Some, Stage, Standing, standing_at, sym, TakesFields, TakesRecord, true, true≢false, ℕ, ◌+◌, ◌≡◌, ◌≤◌}
 use Rattle.capture9.proofs.RuleLemmas.{at-its-row, row_of-err, row_of-ok, rows_from-has_header}
 
@@ -63,6 +63,16 @@ pub refuses-row : {R : Type 0} (source left : R) (s new : Stage) (limit given la
     → GivesRefusal (progress_of limit s given last_time unread source) e (progress_of limit new given last_time after left)
 refuses-row source left s new limit given last_time unread after e reads past marked wrong =
     rw (in-rows s reads past, marked) (grind (arith, nat_tests, past-header limit given last_time unread))
+
+-- and the answer is that refusal
+pub refuses-marked : {R : Type 0} (old : Progress R) (source left : R) (s new : Stage) (limit given last_time : ℕ) (unread after : Option (List (List (List ℕ))))
+    (e : CaptureError) (answer : Result (Option LineByte) CaptureError) → old ≡ progress_of limit s given last_time unread source → answer ≡ Err e
+    → old.standing ≡ Standing.Reading → old.is_headed ≡ true → new ≡ Stage.Refused e → IsRowFault limit given last_time unread e
+    → IfErr answer (λ told. GivesRefusal old told (progress_of limit new given last_time after left))
+refuses-marked old source left s new limit given last_time unread after e answer view is reading headed marked wrong =
+    let at_reading : standing_at s ≡ Standing.Reading = rw view at reading in
+    let past : is_past_header s ≡ true = rw view at headed in
+    rw (is, view) (refuses-row source left s new limit given last_time unread after e at_reading past marked wrong)
 
 -- what stands inside a `Records` that was refused at a row
 pub refused-holds : {R : Type 0} (left : Reader R) (new : Stage) (limit given last_time : ℕ) (e : CaptureError)

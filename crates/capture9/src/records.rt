@@ -1,6 +1,6 @@
 //! The records of a text, one at a time.
 
-ghost use Rattle.std.specs.Prelude.{◌≡◌, ◌≢◌, ◌+◌, ◌≤◌, ◌↔◌, true, false, IfErr, IfNone, IfOk, IfSome, IsTrue, MatchBool, OnErr, OnOk, option_map};
+ghost use Rattle.std.specs.Prelude.{◌≡◌, ◌≢◌, ℕ, Err, ◌+◌, ◌≤◌, ◌↔◌, true, false, IfErr, IfNone, IfOk, IfSome, IsTrue, MatchBool, OnErr, OnOk, option_map};
 ghost use Rattle.csv.specs.Reading.{error_kind};
 ghost use Rattle.csv.specs.Records.{fields_of};
 ghost use Rattle.csv.specs.declared.error.ErrorKind.TheVariants.{OutOfMemory};
@@ -8,7 +8,7 @@ ghost use Rattle.capture9.specs.Error.{is_of_text};
 ghost use Rattle.capture9.specs.Fields.{greatest_limit};
 ghost use Rattle.capture9.specs.Working.{IsPlain, PassesHeader, TakesFields, unread_records};
 ghost use Rattle.capture9.specs.Records.{GivesEnd, GivesRecord, GivesRefusal};
-ghost use Rattle.capture9.specs.Rows.{rows_within};
+ghost use Rattle.capture9.specs.Rows.{row_fault, row_of, rows_within};
 
 use crate::error::{CaptureError, CaptureKind};
 use crate::fields;
@@ -203,22 +203,24 @@ impl<R: Read + Drop> Records<R> {
         ensures within { self.new.given ≤ self.new.most_rows }
     {
         let number = self.given + 1;
-        let fault = match read_record(&mut self.reader, &mut self.row) {
+        match read_record(&mut self.reader, &mut self.row) {
             Ok(true) => match fields::read_row(number, self.most_rows, self.last_time, &self.row) {
                 Some(record) => {
                     self.given = number;
                     self.last_time = record.time_us;
-                    return Ok(Some(record));
+                    Ok(Some(record))
                 }
-                None => fields::fault_in(number, self.most_rows, &self.row),
+                None => {
+                    refuse_row(&mut self.stage, number, self.most_rows, &self.row);
+                    refusal(&self.stage)
+                }
             },
             Ok(false) => {
                 self.stage = Stage::Ended;
-                return Ok(None);
+                Ok(None)
             }
-            Err(kind) => CaptureError::of_row(kind, number),
-        };
-        Err(refuse(&mut self.stage, fault))
+            Err(kind) => Err(refuse(&mut self.stage, CaptureError::of_row(kind, number))),
+        }
     }
 }
 
@@ -242,10 +244,9 @@ fn read_record<R: Read + Drop>(
         (λ unread. TakesFields unread found (fields_of row.new) (unread_records R.remaining reader.new))) }
     ensures refused { IfErr result (λ k. is_of_text k ≡ false) }
 {
-    // looked at where it stands: to take the error out would clear room for it before each record
-    match &reader.read_byte_record(row) {
-        Ok(found) => Ok(*found),
-        Err(error) => Err(kind_of(error)),
+    match reader.read_byte_record(row) {
+        Ok(found) => Ok(found),
+        Err(error) => Err(kind_of(&error)),
     }
 }
 
@@ -257,6 +258,27 @@ fn kind_of(error: &csv::Error) -> CaptureKind
     match error.kind() {
         ErrorKind::OutOfMemory => CaptureKind::OutOfMemory,
         _ => CaptureKind::Read,
+    }
+}
+
+/// Marks that the data row with this number is refused, and for what. There may be `most_rows` rows.
+#[cold]
+#[inline(never)] // it answers nothing, so that no room for a fault is cleared before each record
+fn refuse_row(stage: &mut Stage, number: u32, most_rows: u32, row: &ByteRecord)
+    ensures { (before : ℕ) → IfErr (row_of most_rows number before (fields_of row.now))
+        (λ k. stage.new ≡ Stage.Refused (row_fault number (fields_of row.now) k)) }
+{
+    *stage = Stage::Refused(fields::fault_in(number, most_rows, row));
+}
+
+/// The refusal that was marked.
+#[inline(always)] // so that it is read where it stands
+fn refusal(stage: &Stage) -> Result<Option<LineByte>, CaptureError>
+    ensures { (e : CaptureError) → stage.now ≡ Stage.Refused e → result ≡ Err e }
+{
+    match stage {
+        Stage::Refused(error) => Err(*error),
+        _ => Ok(None),
     }
 }
 

@@ -1,5 +1,5 @@
--- The same records at other times: what is a block, a tail or an exchange stays one, where its reply comes in time or the reply limit is left
--- aside.
+-- The same records at other times: a block stays a block; so do a tail and an exchange, if the reply still comes in time or the reply limit
+-- does not count.
 use Rattle.judge9.proofs.Words.{[], ap, append-nil, append_assoc, arith, Block, bytes_of, Command, Exchange, IsExchange, IsTail, last_apart, last_time, length}
 use Rattle.judge9.proofs.Words.{length-append, LineByte, LineRules, List, refl, same_parts, sym, ◌++◌, ◌+◌, ◌-◌, ◌<◌, ◌↔◌, ◌∙◌, ◌∷◌, ◌≡◌, ◌≤◌}
 use Rattle.block9.specs.Line.{block_len, first_byte, first_time, IsBegun, IsLinked, IsWhole, reply_limit}

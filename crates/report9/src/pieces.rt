@@ -44,6 +44,7 @@ pub fn put_word<B: TextBuffer>(line: &mut B, label: &str, word: &str) -> Result<
 }
 
 /// Puts a label and a number.
+#[inline(always)] // so that the length of the label is known where it is put
 pub fn put_count<B: TextBuffer>(line: &mut B, label: &str, number: u64) -> Result<(), B::Refusal>
     ensures { OnOk result (B.held line.new ≡ B.held line.old ++ (label.now ++ decimal number)) }
 {

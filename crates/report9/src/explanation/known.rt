@@ -54,6 +54,7 @@ pub fn put_fields_for<B: TextBuffer>(
 }
 
 /// Puts a label and a register.
+#[inline(always)] // so that the lengths of its words are known where they are put
 fn put_register<B: TextBuffer>(
     line: &mut B,
     label: &str,
@@ -67,6 +68,7 @@ fn put_register<B: TextBuffer>(
 }
 
 /// Puts what is known of a register.
+#[inline(always)] // the same
 #[tactic(auto, unfolding(crate::specs::Explanation::text_of_register))]
 fn put_entry<B: TextBuffer>(
     line: &mut B,
