@@ -1,16 +1,17 @@
 -- Exchanges, tails, and how a list of records is cut into them.
 use Rattle.block9.specs.declared.line_rules.LineRules.{LineRules}
-use Rattle.std.specs.Prelude.{ℕ, ◌+◌, ◌<◌, ◌≤◌, ◌≡◌, Bool, true, false, None, Option, Some, List, [], ◌∷◌, ◌++◌, length}
+use Rattle.std.specs.Prelude.{ℕ, ◌+◌, ◌<◌, ◌≤◌, ◌≡◌, ◌==◌, ◌||◌, not, Bool, true, false, None, Option, Some, List, [], ◌∷◌, ◌++◌, length}
 use Rattle.capture9.specs.declared.line_byte.LineByte.{LineByte}
 use Rattle.capture9.specs.declared.line_byte.Wire.TheVariants.{Controller, Deck}
 use Rattle.block9.specs.declared.block.Block.{Block}
 use Rattle.block9.specs.declared.command.Command.{Command}
+use Rattle.block9.specs.declared.command.Command.TheVariants.{DeviceType, Unlisted}
 use Rattle.block9.specs.declared.exchange.Exchange.{Exchange}
 use Rattle.block9.specs.declared.line_rules.ReplyLimit.TheVariants.{Counts}
 use Rattle.block9.specs.declared.pairer.Step.{Step}
 use Rattle.block9.specs.declared.pairer.Step.TheVariants as step
 use Rattle.block9.specs.Block.{head_of, spelling}
-use Rattle.block9.specs.Command.{command_of, is_reply_time_valid}
+use Rattle.block9.specs.Command.{command_of, is_ack, is_nak, is_reply_time_valid}
 use Rattle.block9.specs.Replies.{takes}
 use Rattle.block9.specs.Line.{IsWhole, IsBegun, first_time, last_time, reply_limit}
 
@@ -45,6 +46,17 @@ records_of e = length (spelling e.block) + length (spelling e.reply)
 abbrev pub records_in : List Exchange → ℕ
 records_in [] = 0
 records_in (e ∷ es) = records_of e + records_in es
+
+-- a command, of a block in this group, only asks where it is answered so: the senses do, which are group 6, DEVICE TYPE, and of the
+-- commands that are not listed those that are answered with data
+abbrev pub asks_in : ℕ → Command → Block → Bool
+asks_in group DeviceType reply = true
+asks_in group (Unlisted head) reply = (group == 6) || not (is_ack reply || is_nak reply)
+asks_in group c reply = group == 6
+
+-- an exchange only asks
+abbrev pub only_asks : Exchange → Bool
+only_asks e = asks_in e.block.group e.command e.reply
 
 -- what may be open at the end: nothing, a command that is begun or complete, or a command and the beginning of its reply
 pub data IsTail (rules : LineRules) (records : List LineByte) : Type 0 where

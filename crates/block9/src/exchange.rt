@@ -23,7 +23,7 @@ pub struct Exchange {
 
 impl Exchange {
     ghost use Rattle.std.specs.Prelude.{◌≡◌, ◌≤◌};
-    ghost use Rattle.block9.specs.Exchange.{records_of};
+    ghost use Rattle.block9.specs.Exchange.{only_asks, records_of};
 
     /// An equal exchange.
     pub fn copy(&self) -> Exchange
@@ -55,6 +55,21 @@ impl Exchange {
         ensures few { result ≤ 36 }
     {
         self.block.bytes.len() + 3 + self.reply.bytes.len() + 3
+    }
+
+    /// Whether the exchange only asks: a command of group 6 does, and so do DEVICE TYPE and a command that is not listed, where the
+    /// deck answers it with data.
+    pub fn only_asks(&self) -> bool
+        ensures { result ≡ only_asks self.now }
+    {
+        let is_sense = self.block.group == 6;
+        match self.command {
+            Command::DeviceType => true,
+            Command::Unlisted { .. } => {
+                is_sense || !(self.reply.is_ack() || self.reply.is_nak())
+            }
+            _ => is_sense,
+        }
     }
 }
 
