@@ -1,7 +1,7 @@
 -- The bytes of blocks, in hexadecimal digits.
 use Rattle.std.specs.Prelude.{ℕ, ◌/◌, ◌%◌, List, [], ◌∷◌, ◌++◌, slice_index, codes}
 use Rattle.block9.specs.declared.block.Block.{Block}
-use Rattle.block9.specs.Block.{head_of, spelling}
+use Rattle.block9.specs.Block.{spelling}
 
 -- a hexadecimal digit, in upper case
 abbrev pub hex_digit : ℕ → ℕ
@@ -16,9 +16,9 @@ abbrev pub hex_bytes : List ℕ → List ℕ → List ℕ
 hex_bytes before [] = []
 hex_bytes before (byte ∷ bytes) = before ++ hex_byte byte ++ hex_bytes (codes " ") bytes
 
--- the first two bytes of a block, as in 51 20
-unfoldable pub text_of_head : Block → List ℕ
-text_of_head b = hex_byte (head_of b / 256) ++ codes " " ++ hex_byte (head_of b % 256)
+-- the first two bytes of a block, given as one number, as in 51 20
+unfoldable pub text_of_head : ℕ → List ℕ
+text_of_head head = hex_byte (head / 256) ++ codes " " ++ hex_byte (head % 256)
 
 -- a block's bytes as they were captured
 unfoldable pub text_of_block : Block → List ℕ

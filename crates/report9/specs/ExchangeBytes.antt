@@ -83,11 +83,16 @@ time_told rate c reply = time_of_register rate (shown_by c reply) reply
     time_of_register rate (sense.Status asked) reply = None
     time_of_register rate sense.Nothing reply = None
 
+-- the status data in a reply, where it carries some: a NAK carries none
+abbrev pub status_in : Sense → Block → Option Status
+status_in (sense.Register r) reply = None
+status_in (sense.Status asked) reply = if is_nak reply then None else Some (status_of asked reply)
+status_in sense.Nothing reply = None
+
 -- the words after them: those of status data
-abbrev pub said : Sense → Block → List (List ℕ)
-said (sense.Register r) reply = []
-said (sense.Status asked) reply = if is_nak reply then [] else said_by_status (status_of asked reply)
-said sense.Nothing reply = []
+abbrev pub said : Option Status → List (List ℕ)
+said None = []
+said (Some status) = said_by_status status
 
 -- the time in a reply, and the bytes of its block
 unfoldable pub text_of_reply_sent : Profile → Exchange → List ℕ
@@ -95,7 +100,7 @@ text_of_reply_sent p e = time_with_space p.rate (time_told p.rate e.command e.re
 
 -- these, and what status data say
 unfoldable pub text_of_reply_given : Profile → Exchange → List ℕ
-text_of_reply_given p e = text_of_reply_sent p e ++ in_a_row (codes ", says ") (codes ", ") (said (shown_by e.command e.reply) e.reply)
+text_of_reply_given p e = text_of_reply_sent p e ++ in_a_row (codes ", says ") (codes ", ") (said (status_in (shown_by e.command e.reply) e.reply))
 
 -- ---- both
 

@@ -5,7 +5,7 @@ use Rattle.tc25.specs.Day.{text_of}
 use Rattle.tc25.specs.declared.rate.Rate.{Rate}
 use Rattle.block9.specs.declared.block.Block.{Block}
 use Rattle.block9.specs.declared.exchange.Exchange.{Exchange}
-use Rattle.block9.specs.Block.{first_datum}
+use Rattle.block9.specs.Block.{first_datum, head_of}
 use Rattle.block9.specs.Command.{is_ack, is_nak}
 use Rattle.block9.specs.Nak.{nak_bits}
 use Rattle.deck9.specs.declared.knowledge.Known.{Known}
@@ -30,7 +30,7 @@ use Rattle.report9.specs.Row.{in_a_row, names_of}
 
 -- the name of a command, and the first two bytes of one that has none
 unfoldable pub text_of_command : Profile → Exchange → List ℕ
-text_of_command p e = unwrap_or (name_told p.deck e.command) (text_of_head e.block)
+text_of_command p e = unwrap_or (name_told p.deck e.command) (text_of_head (head_of e.block))
 
 -- the names of the bits of a table that are set in a byte
 abbrev pub names_set : ℕ → List (List ℕ × ℕ) → List (List ℕ)
@@ -44,7 +44,7 @@ text_of_nak byte = codes "NAK " ++ hex_byte byte ++ in_a_row (codes " ") (codes 
 unfoldable pub text_of_reply : Block → List ℕ
 text_of_reply reply =
     if is_ack reply then codes "ACK"
-    else (if is_nak reply then text_of_nak (first_datum reply) else text_of_head reply)
+    else (if is_nak reply then text_of_nak (first_datum reply) else text_of_head (head_of reply))
 
 -- ---- what is known of the deck
 

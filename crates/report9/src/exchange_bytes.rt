@@ -1,7 +1,7 @@
 //! An exchange with the bytes of its blocks, put to the end of a line.
-mod block_bytes;
+pub(crate) mod block_bytes;
 pub(crate) mod modes;
-mod said;
+pub(crate) mod said;
 
 ghost use Rattle.std.specs.Prelude.{◌≡◌, ◌++◌, OnOk};
 ghost use Rattle.deck9.specs.Names.{name_told};
@@ -130,7 +130,7 @@ fn put_time(line: &mut Vec<u8>, rate: Rate, time: Option<TimeCode>) -> Result<()
 }
 
 /// The time that a reply tells, where it is valid: the deck's own, or that of a register.
-fn time_told(rate: Rate, exchange: &Exchange) -> Option<TimeCode>
+pub fn time_told(rate: Rate, exchange: &Exchange) -> Option<TimeCode>
     ensures { result ≡ time_told rate exchange.now.command exchange.now.reply }
 {
     let (command, reply) = (&exchange.command, &exchange.reply);

@@ -1,5 +1,5 @@
 //! The line that explains an exchange, put to the end of a buffer.
-mod asked;
+pub(crate) mod asked;
 pub(crate) mod known;
 
 ghost use Rattle.std.specs.Prelude.{◌≡◌, ◌++◌, OnOk, codes};

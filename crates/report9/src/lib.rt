@@ -20,6 +20,8 @@ mod pieces;
 mod row;
 mod run_text;
 mod run_verdict;
+mod stretch;
+mod time_form;
 mod totals;
 mod verdict;
 mod verdict_line;
@@ -31,19 +33,26 @@ pub use at_25::write_run;
 pub use buffer::TextBuffer;
 pub use detail::Detail;
 pub use error::JudgeError;
+pub use exchange_bytes::block_bytes::put_block;
 pub use exchange_bytes::modes::put_modes;
+pub use exchange_bytes::said::status_in;
 pub use exchange_bytes::{
     put_command_sent, put_exchange, put_exchange_records, put_records, put_reply_sent, put_words,
+    time_told,
 };
+pub use explanation::asked::{put_command, put_head, put_nak, put_reply};
 pub use explanation::known::{put_fields_for, put_knowledge};
 pub use explanation::put_exchange_line_for;
 pub use pieces::{put_count, put_hex, put_text, put_wide, put_word};
 pub use row::{put_chosen, put_in_row};
-pub use run_text::write_run_for;
+pub use run_text::{known_state, write_run_for};
 pub use run_verdict::RunVerdict;
+pub use stretch::Stretch;
+pub use time_form::TimeForm;
 pub use totals::{Totals, put_totals_line};
 pub use verdict::{Beginning, Extent, Scope, Verdict, View};
 pub use verdict_line::{put_no_line, put_verdict_line, put_yes_line};
 pub use why_no::{EndedExchange, WhyNo};
+pub use why_text::break_lines::put_bytes;
 pub use why_text::put_why_for;
 pub use writing::{WriteFault, write_all, write_some};

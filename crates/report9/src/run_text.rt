@@ -142,7 +142,7 @@ fn put_state_line(
 }
 
 /// All that can be known of a deck: its state.
-fn known_state(state: &State) -> Knowledge
+pub fn known_state(state: &State) -> Knowledge
     ensures { result ≡ known_state state.now }
 {
     Knowledge {

@@ -1,6 +1,6 @@
 //! The text of why a verdict is a no: the records that are open before the one that breaks a rule, or the replies that
 //! contradict one another and what the deck could show before the last of them.
-mod break_lines;
+pub(crate) mod break_lines;
 
 ghost use Rattle.std.specs.Prelude.{◌≡◌, ◌-◌, ◌++◌, [], OnOk};
 ghost use Rattle.block9.specs.Exchange.{records_in};

@@ -7,7 +7,7 @@ use block9::Block;
 use std::alloc::AllocError;
 
 /// Puts a block's bytes: the first one, the code, the data, and the sum.
-pub(super) fn put_block(line: &mut Vec<u8>, block: &Block) -> Result<(), AllocError>
+pub fn put_block(line: &mut Vec<u8>, block: &Block) -> Result<(), AllocError>
     ensures { OnOk result (line.new.items ≡ line.old.items ++ text_of_block block.now) }
 {
     put_hex(line, block.first_byte())?;

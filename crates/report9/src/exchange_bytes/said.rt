@@ -1,37 +1,37 @@
 //! What a status says of the deck by itself, in a row of words.
 ghost use Rattle.std.specs.Prelude.{◌≡◌, ◌++◌, codes, if◌then◌else◌, IfOk, OnOk};
 ghost use Rattle.report9.specs.Row.{in_a_row};
-ghost use Rattle.report9.specs.ExchangeBytes.{local_said, register_said, registers_said, said, said_by_status, shown_said};
+ghost use Rattle.report9.specs.ExchangeBytes.{local_said, register_said, registers_said, said, said_by_status, shown_said, status_in};
 ghost use Rattle.report9.specs.Working.{next_before};
 ghost use Rattle.deck9.specs.Shows.{shown_by};
 
 use crate::exchange_bytes::modes::put_modes;
 use crate::pieces::{put_text, put_word};
 use crate::row::put_in_row;
-use block9::{Block, Exchange};
+use block9::Exchange;
 use deck9::{ModeSet, RegistersSet, Sense, Status};
 use std::alloc::AllocError;
 
 /// Puts what an exchange's reply says of the deck, where it carries status data: the first words after `, says `.
 pub(super) fn put_said(line: &mut Vec<u8>, exchange: &Exchange) -> Result<(), AllocError>
     ensures { OnOk result (line.new.items ≡ line.old.items
-        ++ in_a_row (codes ", says ") (codes ", ") (said (shown_by exchange.now.command exchange.now.reply) exchange.now.reply)) }
+        ++ in_a_row (codes ", says ") (codes ", ") (said (status_in (shown_by exchange.now.command exchange.now.reply) exchange.now.reply))) }
 {
-    match Sense::shown_by(&exchange.command, &exchange.reply) {
-        Sense::Status(asked) => put_status(line, asked, &exchange.reply),
-        Sense::Register(_) | Sense::Nothing => Ok(()),
+    match status_in(exchange) {
+        Some(status) => put_reported(line, &status),
+        None => Ok(()),
     }
 }
 
-/// Puts what a reply to a request for status data says; a NAK says nothing.
-fn put_status(line: &mut Vec<u8>, asked: u8, reply: &Block) -> Result<(), AllocError>
-    ensures { OnOk result (line.new.items ≡ line.old.items
-        ++ in_a_row (codes ", says ") (codes ", ") (said (Sense.Status asked) reply.now)) }
+/// The status data that an exchange's reply carries, where it does; a NAK carries none.
+pub fn status_in(exchange: &Exchange) -> Option<Status>
+    ensures { result ≡ status_in (shown_by exchange.now.command exchange.now.reply) exchange.now.reply }
 {
-    if reply.is_nak() {
-        return Ok(());
+    let reply = &exchange.reply;
+    match Sense::shown_by(&exchange.command, reply) {
+        Sense::Status(asked) if !reply.is_nak() => Some(Status::of(asked, reply)),
+        _ => None,
     }
-    put_reported(line, &Status::of(asked, reply))
 }
 
 /// Puts what a status reports: LOCAL, the modes that may be shown, and the registers.

@@ -16,7 +16,7 @@ use std::alloc::AllocError;
 
 /// Puts a label and a command: its name, or the first two bytes of one that has none.
 #[tactic(auto, unfolding(crate::specs::Explanation::text_of_command))]
-pub(super) fn put_command(
+pub fn put_command(
     line: &mut Vec<u8>,
     label: &str,
     profile: &Profile,
@@ -27,13 +27,13 @@ pub(super) fn put_command(
     put_text(line, label)?;
     match profile.name_of(&exchange.command) {
         Some(name) => line.put(name),
-        None => put_head(line, &exchange.block),
+        None => put_head(line, exchange.block.head()),
     }
 }
 
 /// Puts a label and a reply: an acknowledgement, a NAK with its reasons, or the first two bytes of another block.
 #[tactic(auto, unfolding(crate::specs::Explanation::text_of_reply))]
-pub(super) fn put_reply(line: &mut Vec<u8>, label: &str, reply: &Block) -> Result<(), AllocError>
+pub fn put_reply(line: &mut Vec<u8>, label: &str, reply: &Block) -> Result<(), AllocError>
     ensures { OnOk result (line.new.items ≡ line.old.items ++ (label.now ++ text_of_reply reply.now)) }
 {
     put_text(line, label)?;
@@ -42,12 +42,12 @@ pub(super) fn put_reply(line: &mut Vec<u8>, label: &str, reply: &Block) -> Resul
     }
     match NakBits::of(reply) {
         Some(nak) => put_nak(line, nak),
-        None => put_head(line, reply),
+        None => put_head(line, reply.head()),
     }
 }
 
 /// Puts a NAK: its byte, and the names of the bits that are set.
-fn put_nak(line: &mut Vec<u8>, nak: NakBits) -> Result<(), AllocError>
+pub fn put_nak(line: &mut Vec<u8>, nak: NakBits) -> Result<(), AllocError>
     ensures { OnOk result (line.new.items ≡ line.old.items ++ text_of_nak nak.0) }
 {
     put_text(line, "NAK ")?;
@@ -66,11 +66,10 @@ fn put_nak_names(line: &mut Vec<u8>, nak: NakBits) -> Result<(), AllocError>
     Ok(())
 }
 
-/// Puts the first two bytes of a block.
-fn put_head(line: &mut Vec<u8>, block: &Block) -> Result<(), AllocError>
-    ensures { OnOk result (line.new.items ≡ line.old.items ++ text_of_head block.now) }
+/// Puts the first two bytes of a block, which are given as one number.
+pub fn put_head(line: &mut Vec<u8>, head: u32) -> Result<(), AllocError>
+    ensures { OnOk result (line.new.items ≡ line.old.items ++ text_of_head head) }
 {
-    let head = block.head();
     put_hex(line, head / 256)?;
     put_text(line, " ")?;
     put_hex(line, head % 256)

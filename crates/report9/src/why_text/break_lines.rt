@@ -172,7 +172,7 @@ fn would_end(wire: Wire, breaking: Wire, came: usize, wanted: usize) -> bool
 }
 
 /// Puts the bytes of records, with a space between two.
-fn put_bytes(line: &mut Vec<u8>, records: &[LineByte]) -> Result<(), AllocError>
+pub fn put_bytes(line: &mut Vec<u8>, records: &[LineByte]) -> Result<(), AllocError>
     ensures { OnOk result (line.new.items ≡ line.old.items ++ hex_bytes [] (bytes_of records.now)) }
 {
     let mut before = "";
