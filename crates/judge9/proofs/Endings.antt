@@ -5,7 +5,8 @@ use Rattle.judge9.proofs.Words.{part_after, Profile, Reason, records_in, refl, R
 use Rattle.report9.specs.Lines.{line_of}
 use Rattle.report9.specs.declared.totals.Totals.{Totals}
 use Rattle.judge9.specs.Standing.{totals_of}
-use Rattle.judge9.specs.Working.Reporting.{AllTold, ending_of, Judged, verdict_at}
+use Rattle.judge9.specs.Working.Reporting.{AllTold, ending_of, Judged}
+use Rattle.judge9.specs.Standing.{verdict_at}
 use Rattle.judge9.specs.declared.judging.Judging.{Judging}
 use Rattle.judge9.specs.declared.kept.Kept.{Kept}
 use Rattle.judge9.specs.declared.stage.Stage.TheVariants.{the_data as Stage}

@@ -8,6 +8,7 @@ pub mod FirstText
 pub mod GoingOn
 pub mod HistorySteps
 pub mod InTime
+pub mod Keeping
 pub mod LawLemmas
 pub mod LineSteps
 pub mod Marking

@@ -8,7 +8,9 @@ use Rattle.judge9.specs.declared.judging.Judging.{Judging}
 use Rattle.judge9.specs.declared.kept.Kept.{Kept}
 use Rattle.judge9.specs.declared.stage.Stage.TheVariants.{the_data as Stage}
 use Rattle.judge9.specs.Working.Reporting.{Judged}
+use Rattle.judge9.proofs.Keeping.{keeps_next, kept_of}
 use Rattle.judge9.proofs.LineSteps.{none_after}
+use Rattle.judge9.specs.Keeping.{KeepsPart}
 use Rattle.judge9.proofs.Results.{judged_here, judged_refused, reached_nothing, text_of_nothing}
 use Rattle.judge9.proofs.Texts.{text_break, text_exchange, text_late, text_silent}
 
@@ -20,14 +22,9 @@ IsFirst scope h j =
     scope.extent ≡ Extent.FirstBreak → (h.broken ≡ [])
     ⊎ ((b : Break) × (j.stage ≡ Stage.Broken b) × (part : BrokenPart) × (h.broken ≡ part ∷ []) × (number_of part ≡ j.feed.rows.given) × (part.reason ≡ b.reason) × IsToFirstBreak h)
 
--- the time at which exchanges of a part ended, the last one last
-pub record EndedAt (part : Part) (us : Option ℕ) : Type 0 where
-  pub none : part.exchanges ≡ [] → us ≡ None
-  pub last : part.tail ≡ [] → IsEnd part.records part.exchanges us
-
 -- what is kept of the part, where it is told why a part breaks
 abbrev pub IsKeptOf : View → History → Kept → Type 0
-IsKeptOf view h kept = view ≡ View.Why → (kept.exchanges.items ≡ h.part.exchanges) × EndedAt h.part kept.end_us
+IsKeptOf view h kept = view ≡ View.Why → KeepsPart h kept
 
 pub record SoFar {R : Type 0} (view : View) (scope : Scope) (profile : Profile) (rows : Option Rows) (old now : Option (List ℕ)) (kept : Kept) (j : Judging R) : Type 0 where
   pub history : History
@@ -50,7 +47,7 @@ so_far-none view scope profile rows old kept j stands none = record {
   reached = reached_nothing (rows_allowed scope.extent) (terms_for scope.extent profile) scope.beginning rows;
   stands = stands;
   first = λ is. inl refl;
-  keeps = λ why. ((none why).0, record { none = λ nil. (none why).1; last = λ nil. (none why).1 });
+  keeps = λ why. record { exchanges = (none why).0; ended = record { none = λ nil. (none why).1; last = λ nil. (none why).1 } };
 }
 
 first_of : {R : Type 0} (scope : Scope) (h : History) (j : Judging R) → IsFirst scope h j → scope.extent ≡ Extent.FirstBreak → IsToFirstBreak h
@@ -72,30 +69,8 @@ unbroken {R} s over never is = elim (s.first is) [
 
 -- ---- one event more
 
--- the time at which exchanges ended, where one was told last
-ends-more : (records : List LineByte) (es : List Exchange) (e : Exchange) (us : Option ℕ) → us ≡ Some (last_time records) → IsEnd records (es ++ e ∷ []) us
-ends-more records [] e us is = is
-ends-more records (x ∷ es) e us is = is
-
-ended_more : (part : Part) (es : List Exchange) (e : Exchange) (us : Option ℕ) → part.exchanges ≡ es ++ e ∷ [] → us ≡ Some (last_time part.records) → EndedAt part us
-ended_more part es e us exchanges is = record {
-  none = λ nil. absurd (omega (arith, ap length (sym exchanges ∙ nil), length_push es e));
-  last = λ nil. rw exchanges (ends-more part.records es e us is);
-}
-
-ended_on : (p q : Part) (us : Option ℕ) → EndedAt p us → q.exchanges ≡ p.exchanges → (q.tail ≡ [] → (q.exchanges ≡ []) ⊎ ((q.records ≡ p.records) × (p.tail ≡ []))) → EndedAt q us
-ended_on p q us h exchanges still = record { none = λ nil. h.none (sym exchanges ∙ nil); last = λ nil. by (still nil) }
-  where
-    by : (q.exchanges ≡ []) ⊎ ((q.records ≡ p.records) × (p.tail ≡ [])) → IsEnd q.records q.exchanges us
-    by (inl none) = rw none (h.none (sym exchanges ∙ none))
-    by (inr (records, tail)) = rw (records, exchanges) (h.last tail)
-
 module _ {R : Type 0} {view : View} {scope : Scope} {profile : Profile} {rows : Option Rows} {old now : Option (List ℕ)} {kept : Kept} {j k : Judging R} (s : SoFar view scope profile rows old now kept j)
     {event : Turn} (a : Advances scope profile rows s.history event k) where
-  -- where it is told why a part breaks: what is kept of the part that this breaks
-  had : view ≡ View.Why → (kept.exchanges.items ≡ a.front.part.exchanges) × EndedAt a.front.part kept.end_us
-  had why = let keeps = s.keeps why in (keeps.0 ∙ sym a.silent.exchanges, ended_on s.history.part a.front.part kept.end_us keeps.1 a.silent.exchanges a.silent.still)
-
   -- its text
   pub text_next : (event : Turn) (next : History) (line : List ℕ) → Tells (terms_for scope.extent profile) a.front event next k.feed
       → IsTextOf view profile k.feed kept.exchanges.items kept.end_us event line → IsToldText view (terms_for scope.extent profile) next (s.text ++ line)
@@ -104,35 +79,8 @@ module _ {R : Type 0} {view : View} {scope : Scope} {profile : Profile} {rows : 
   text_next (Turn.Break b) next line t is = text_break kept.exchanges.items kept.end_us t view line facts is (text_silent a.silent s.is_text)
     where
       facts : view ≡ View.Why → (kept.exchanges.items ≡ t.part.part.exchanges) × (t.part.part.tail ≡ [] → IsEnd t.part.part.records kept.exchanges.items kept.end_us)
-      facts why =
-          let same = (had why).0 ∙ sym t.exchanges in
-          (same, λ nil. rw same ((ended_on a.front.part t.part.part kept.end_us (had why).1 t.exchanges t.still).last nil))
+      facts why = kept_of (s.keeps why) a t
   text_next Turn.End next line t is = absurd t
-
-  -- what is kept behind it
-  pub keeps_next : (event : Turn) (next : History) (new : Kept) → Tells (terms_for scope.extent profile) a.front event next k.feed → (view ≡ View.Why → KeepsTold k.feed event kept new) → IsKeptOf view next new
-  keeps_next Turn.Exchange next new t keeps = λ why.
-      let more = keeps why in
-      (more.0 t.e t.shown ∙ ap (λ l. l ++ t.e ∷ []) (had why).0 ∙ sym t.exchanges, ended_more next.part a.front.part.exchanges t.e new.end_us t.exchanges (more.1 ∙ t.ended))
-  keeps_next (Turn.LateReply r) next new t keeps = λ why.
-      let same = keeps why in
-      (ap (λ (v : Vec Exchange Global). v.items) same.0 ∙ (had why).0 ∙ sym t.exchanges, rw same.1 (ended_on a.front.part next.part kept.end_us (had why).1 t.exchanges t.still))
-  keeps_next (Turn.Break b) next new t keeps = λ why.
-      let none = keeps why in
-      (none.0 ∙ sym t.none_judged.1, record { none = λ nil. none.1; last = λ nil. rw t.none_judged.1 none.1 })
-  keeps_next Turn.End next new t keeps = absurd t
-
-  -- where no run remains with its last exchange
-  pub breaks_last : (b : Break) → event ≡ Turn.Break b → view ≡ View.Why → b.reason ≡ Reason.NoRun
-      → (e : Exchange) × (k.feed.follower.pairer.exchange ≡ Some e) × BreaksAtLast profile (kept.exchanges.items ++ e ∷ [])
-  breaks_last b is why no_run = by t.shows
-    where
-      t : TellsBreak (terms_for scope.extent profile) a.front a.next b k.feed
-      t = rw is at a.tells
-
-      by : ShowsBreak (terms_for scope.extent profile) t.part k.feed.follower.pairer → (e : Exchange) × (k.feed.follower.pairer.exchange ≡ Some e) × BreaksAtLast profile (kept.exchanges.items ++ e ∷ [])
-      by (inl other) = absurd (other.0 (t.reason ∙ no_run))
-      by (inr (same, e, ends, whole, last)) = (e, ends, rw ((had why).0 ∙ sym t.exchanges) last)
 
   module _ (over : IsOver j (Ok event) k) (other : event ≢ Turn.End) (broke : (b : Break) → event ≡ Turn.Break b → k.stage ≡ Stage.Broken b) where
     none : scope.extent ≡ Extent.FirstBreak → a.front.broken ≡ []
@@ -157,7 +105,7 @@ module _ {R : Type 0} {view : View} {scope : Scope} {profile : Profile} {rows : 
       reached = a.now_reached;
       stands = a.stands;
       first = next_first event a.next a.tells broke;
-      keeps = keeps_next event a.next after a.tells keeps;
+      keeps = λ why. keeps_next (s.keeps why) a after (keeps why);
     }
 
     -- or not, by one that shows the same and takes the deck for the same

@@ -7,7 +7,8 @@ use Rattle.report9.specs.declared.totals.Totals.{Totals}
 use Rattle.judge9.specs.Beginning.{Rest}
 use Rattle.judge9.specs.History.{History}
 use Rattle.judge9.specs.Standing.{totals_of}
-use Rattle.judge9.specs.Working.Reporting.{ending_of, Judged, JudgesRun, KeepsAll, verdict_at, verdict_of}
+use Rattle.judge9.specs.Working.Reporting.{ending_of, Judged, JudgesRun, KeepsAll}
+use Rattle.judge9.specs.Standing.{verdict_at, verdict_of}
 use Rattle.judge9.specs.declared.feed.Feed.{Feed}
 use Rattle.judge9.specs.declared.judging.Judging.{Judging}
 use Rattle.judge9.specs.declared.kept.Kept.{Kept}

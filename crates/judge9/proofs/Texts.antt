@@ -53,7 +53,7 @@ late_text View.Why es us line t (why, says, is) = (why, rw t.rules at (says t.as
 
 -- why a part breaks
 module _ {R : Type 0} {terms : Terms} {h next : History} {b : Break} {j : Feed R} (es : List Exchange) (us : Option ℕ) (t : TellsBreak terms h next b j) where
-  why_text : (es ≡ t.part.part.exchanges) × (t.part.part.tail ≡ [] → IsEnd t.part.part.records es us) → (why : WhyNo) → SaysWhy terms.profile j.rows.given b j.follower.pairer es us why
+  pub why_text : (es ≡ t.part.part.exchanges) × (t.part.part.tail ≡ [] → IsEnd t.part.part.records es us) → (why : WhyNo) → SaysWhy terms.profile j.rows.given b j.follower.pairer es us why
       → ShowsBreak terms t.part j.follower.pairer → IsWhy terms t.part why
   why_text (kept, ended) (WhyNo.Break at x tail o before r) (number, x_is, r_is, tail_is, opened, told, other) (inl (not, rules, same)) = (
     number ∙ sym t.number,

@@ -72,7 +72,8 @@ pub use Rattle.judge9.specs.Standing.{Advances, AreCounted, CanGoOn, Completes, 
 pub use Rattle.judge9.specs.Working.Marking.{GrowsBy, late_besides, IsMarked, IsToldOf, Marks, MarksBreak}
 pub use Rattle.judge9.specs.Verdict.{reply_limit_of, rows_allowed, terms_for}
 pub use Rattle.judge9.specs.Working.{WhyNo}
-pub use Rattle.judge9.specs.Working.Telling.{IsEnd, IsKept as KeepsTold, IsTextOf, IsTold, Puts, SaysNoRun, SaysWhy}
+pub use Rattle.judge9.specs.Keeping.{IsEnd}
+pub use Rattle.judge9.specs.Working.Telling.{IsKept as KeepsTold, IsTextOf, IsTold, Puts, SaysNoRun, SaysWhy}
 pub use Rattle.judge9.specs.Why.{IsWhy, SaysLate}
 pub use Rattle.judge9.specs.Report.{AreTextsOf, by_totals, by_verdict, Ending, IsBreakText, IsEnding, IsEventText, IsPartText, IsRefusedAfter, IsToFirstBreak, IsToldText, IsToTheEnd, last_line, Told, Written}
 pub use Rattle.report9.specs.Lines.{line_of_totals}

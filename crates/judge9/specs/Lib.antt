@@ -8,6 +8,7 @@ pub mod History
 pub mod Events
 pub mod Standing
 pub mod Why
+pub mod Keeping
 pub mod Report
 pub mod RunVerdict
 pub mod Working

@@ -22,6 +22,8 @@ use Rattle.report9.specs.declared.error.JudgeError.TheVariants.{OutOfMemory}
 use Rattle.report9.specs.declared.verdict.Beginning.{Beginning}
 use Rattle.report9.specs.declared.verdict.Extent.TheVariants.{FirstBreak}
 use Rattle.report9.specs.declared.verdict.Scope.{Scope}
+use Rattle.report9.specs.declared.verdict.Verdict.{Verdict}
+use Rattle.report9.specs.declared.verdict.Verdict.TheVariants.{No, Yes}
 use Rattle.judge9.specs.declared.counts.Counts.{Counts}
 use Rattle.judge9.specs.declared.event.Break.{Break}
 use Rattle.judge9.specs.declared.event.Event.{Event}
@@ -180,6 +182,14 @@ totals_of j = record {
   passed_over = (j.feed.rows.given - j.counts.records) - length j.feed.follower.pairer.tail;
   tail = length j.feed.follower.pairer.tail;
 }
+
+-- the verdict of a judging that has ended, by what it counted and where it stands
+abbrev pub verdict_at : Totals → Stage → Verdict
+verdict_at t (stage.Broken b) = No t.records b.reason
+verdict_at t _ = Yes (t.records - t.passed_over) t.exchanges t.tail
+
+abbrev pub verdict_of : {R : Type 0} → Judging R → Verdict
+verdict_of j = verdict_at (totals_of j) j.stage
 
 -- a judging of this scope, of a deck that is taken for this, stands behind this history of these rows
 pub record Stands {R : Type 0} (scope : Scope) (profile : Profile) (rows : Option Rows) (h : History) (j : Judging R) : Type 0 where

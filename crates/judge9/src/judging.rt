@@ -9,7 +9,7 @@ use crate::stage::Stage;
 use block9::{Exchange, Open};
 use capture9::LineByte;
 use deck9::{Knowledge, ModeSet, Profile};
-use report9::{Extent, JudgeError, Scope, Totals};
+use report9::{Extent, JudgeError, Scope, Totals, Verdict};
 use std::alloc::{AllocError, Global};
 use std::io::Read;
 
@@ -43,7 +43,7 @@ impl<'a, R: Read + Drop> Judging<'a, R> {
     ghost use Rattle.deck9.specs.declared.state.State.{State as AState};
     ghost use Rattle.track9.specs.Tracker.{Possible};
     ghost use Rattle.judge9.specs.History.{History, nothing_told};
-    ghost use Rattle.judge9.specs.Standing.{CanGoOn, Next, ShowsExchange, Stands, left_of, totals_of};
+    ghost use Rattle.judge9.specs.Standing.{CanGoOn, Next, ShowsExchange, Stands, left_of, totals_of, verdict_of};
     ghost use Rattle.judge9.specs.Verdict.{rows_allowed, terms_for};
     ghost use Rattle.judge9.specs.Working.Marking.{GrowsBy, IsMarked, IsToldOf};
     ghost use Rattle.judge9.specs.declared.event.Break.{Break as ABreak};
@@ -266,6 +266,24 @@ impl<'a, R: Read + Drop> Judging<'a, R> {
         match self.stage {
             Stage::Broken(broken) => Some(broken),
             _ => None,
+        }
+    }
+
+    /// The verdict, of a judging up to the first break that has ended.
+    pub fn verdict(&self) -> Verdict
+        ensures { result ≡ verdict_of self.now }
+    {
+        let totals = self.totals();
+        match self.broken() {
+            Some(broken) => Verdict::No {
+                at: totals.records,
+                reason: broken.reason,
+            },
+            None => Verdict::Yes {
+                records: totals.records.saturating_sub(totals.passed_over),
+                exchanges: totals.exchanges,
+                tail: totals.tail,
+            },
         }
     }
 }

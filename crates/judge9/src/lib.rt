@@ -28,6 +28,7 @@ pub use counts::Counts;
 pub use deck9::{is_run, is_run_of};
 pub use event::{Break, Event};
 pub use judging::Judging;
+pub use kept::Kept;
 pub use knowing::Knowing;
 pub use report::{judge_for, judge_parts_for};
 pub use report9::{

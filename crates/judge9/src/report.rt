@@ -6,7 +6,7 @@ ghost use Rattle.judge9.specs.History.{nothing_told};
 ghost use Rattle.judge9.specs.Judging.{Answers};
 ghost use Rattle.judge9.specs.Report.{Told, by_totals, by_verdict};
 ghost use Rattle.judge9.specs.Standing.{CanGoOn, Stands};
-ghost use Rattle.judge9.specs.Working.Reporting.{IsAllTold, Judged, verdict_of};
+ghost use Rattle.judge9.specs.Working.Reporting.{IsAllTold, Judged};
 ghost use Rattle.report9.specs.declared.verdict.Extent.TheVariants as AnExtent;
 
 use crate::event::Event;
@@ -182,31 +182,13 @@ fn tell_verdict<'a, R: Read + Drop, W: Write>(
     ensures { Judged telling.old.view judging.old.scope judging.old.profile.now judging.old.feed.rows.rows (by_verdict result) (W.contents writer.old) (W.contents writer.new) }
 {
     tell_all(judging, telling, writer)?;
-    let verdict = verdict_of(judging);
+    let verdict = judging.verdict();
     if let Verdict::Yes { .. } = verdict {
         telling.line.clear();
         put_verdict_line(&mut telling.line, verdict)?;
         write_all(writer, telling.line.as_slice())?;
     }
     Ok(verdict)
-}
-
-/// The verdict of a judging up to the first break that has ended.
-pub(crate) fn verdict_of<R: Read + Drop>(judging: &Judging<R>) -> Verdict
-    ensures { result ≡ verdict_of judging.now }
-{
-    let totals = judging.totals();
-    match judging.broken() {
-        Some(broken) => Verdict::No {
-            at: totals.records,
-            reason: broken.reason,
-        },
-        None => Verdict::Yes {
-            records: totals.records.saturating_sub(totals.passed_over),
-            exchanges: totals.exchanges,
-            tail: totals.tail,
-        },
-    }
 }
 
 /// Tells of all events, and then the totals.

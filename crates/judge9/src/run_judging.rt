@@ -11,7 +11,6 @@ ghost use Rattle.report9.specs.declared.verdict.Extent.TheVariants as AnExtent;
 use crate::event::Event;
 use crate::judging::Judging;
 use crate::kept::Kept;
-use crate::report::verdict_of;
 use deck9::{Profile, Register};
 use report9::{Beginning, Extent, JudgeError, RunVerdict, Scope, Verdict};
 use run9::{Pace, states_of_run};
@@ -73,7 +72,7 @@ fn find_run<R: Read + Drop>(
     let mut kept = Kept::new(alloc);
     let mut spans = 0;
     keep_all(judging, &mut kept, &mut spans)?;
-    match verdict_of(judging) {
+    match judging.verdict() {
         Verdict::No { at, reason } => Ok(RunVerdict::No { at, reason }),
         Verdict::Yes { records, tail, .. } => {
             let exchanges = kept.exchanges;

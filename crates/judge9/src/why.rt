@@ -6,7 +6,8 @@ ghost use Rattle.block9.specs.declared.exchange.Exchange.{Exchange as AnExchange
 ghost use Rattle.capture9.specs.declared.line_byte.LineByte.{LineByte as ALineByte};
 ghost use Rattle.judge9.specs.Standing.{ShowsExchange};
 ghost use Rattle.judge9.specs.Why.{SaysLate};
-ghost use Rattle.judge9.specs.Working.Telling.{IsEnd, SaysNoRun, SaysWhy};
+ghost use Rattle.judge9.specs.Keeping.{IsEnd};
+ghost use Rattle.judge9.specs.Working.Telling.{SaysNoRun, SaysWhy};
 ghost use Rattle.report9.specs.OpenRecords.{IsBefore};
 ghost use Rattle.why9.specs.Contradiction.{BreaksAtLast};
 

@@ -8,21 +8,13 @@ use Rattle.judge9.specs.History.{History}
 use Rattle.judge9.specs.Report.{Ending, IsEnding, Told, by_verdict}
 use Rattle.judge9.specs.Report.Ending.{counted, judged}
 use Rattle.judge9.specs.RunVerdict.{HasItsRun, judged_of}
-use Rattle.judge9.specs.Standing.{totals_of}
+use Rattle.judge9.specs.Standing.{totals_of, verdict_of}
 use Rattle.judge9.specs.Working.{[], CaptureKind, Err, Exchange, IfErr, IfOk, IfSome, JudgeError, length, List, None, Ok, Option, Profile, Result, Rows, RunVerdict, Verdict, View, ℕ, ⊤}
 use Rattle.report9.specs.declared.totals.Totals.{Totals}
 use Rattle.report9.specs.declared.verdict.Extent.{Extent}
 use Rattle.report9.specs.declared.verdict.Extent.TheVariants.{FirstBreak, WholeCapture}
 use Rattle.report9.specs.declared.verdict.Scope.{Scope}
 use Rattle.track9.specs.Following.{KeepsEnds}
-
--- the verdict of a judging that has ended, by what it counted and where it stands
-abbrev pub verdict_at : Totals → Stage → Verdict
-verdict_at t (stage.Broken b) = Verdict.No t.records b.reason
-verdict_at t _ = Verdict.Yes (t.records - t.passed_over) t.exchanges t.tail
-
-abbrev pub verdict_of : {R : Type 0} → Judging R → Verdict
-verdict_of j = verdict_at (totals_of j) j.stage
 
 abbrev pub ending_of : {R : Type 0} → Extent → Judging R → Ending
 ending_of FirstBreak j = judged (verdict_of j)

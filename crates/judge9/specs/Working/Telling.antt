@@ -2,9 +2,9 @@
 use Rattle.std.specs.Prelude.{◌≡◌, ◌≢◌, ◌⊎◌, ◌++◌, ◌∷◌}
 use Rattle.std.specs.Io.KnownBytes.{Appends}
 use Rattle.block9.specs.Exchange.{BeginsLate}
-use Rattle.block9.specs.Line.{last_time}
 use Rattle.block9.specs.Pairer.{IsOpenAfter}
 use Rattle.judge9.specs.declared.kept.Kept.{Kept}
+use Rattle.judge9.specs.Keeping.{IsEnd}
 use Rattle.judge9.specs.Why.{SaysLate}
 use Rattle.judge9.specs.Working.{[], AppendsPart, Break, Err, Exchange, Feed, IsKnowledge, JudgeError, Knowledge, line_of_exchange, LineByte, List, None, Ok, Option, Possible, Profile, Reason, Result, Some, Turn, Verdict, View, WhyNo, ℕ}
 use Rattle.block9.specs.Pairer.{Paired}
@@ -21,11 +21,6 @@ Puts text (Ok a) old new = Appends old new text
 Puts text (Err (JudgeError.Capture e)) old new = ⊥
 Puts text (Err JudgeError.Write) old new = AppendsPart old new text
 Puts text (Err JudgeError.OutOfMemory) old new = Appends old new []
-
--- the time at which these records end, if they end with one of these exchanges, and none where there is no exchange
-abbrev pub IsEnd : List LineByte → List Exchange → Option ℕ → Type 0
-IsEnd records [] end_us = end_us ≡ None
-IsEnd records (e ∷ es) end_us = end_us ≡ Some (last_time records)
 
 -- why no run remains with the last of these exchanges
 abbrev pub SaysNoRun : Profile → ℕ → List Exchange → WhyNo → Type 0

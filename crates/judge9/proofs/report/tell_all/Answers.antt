@@ -1,7 +1,8 @@
 use Rattle.judge9.proofs.Words.{[], Appends-nil, arith, refl, sym, ◌∙◌}
 use Rattle.judge9.proofs.report.tell_all.Goals as goal
 use Rattle.judge9.proofs.Endings.{all_told}
-use Rattle.judge9.proofs.Reports.{advanced, breaks_last, failed, so_far-more, so_far-none, untold}
+use Rattle.judge9.proofs.Keeping.{breaks_last}
+use Rattle.judge9.proofs.Reports.{advanced, failed, so_far-more, so_far-none, untold}
 use Rattle.judge9.proofs.TurnSteps.{handed}
 
 pub events-init : goal.events-init
@@ -31,7 +32,7 @@ tell-requires g c =
     let same = c.in_ok-event.ensures.same.1 ∙ s.stands.same_profile in
     record {
       shows = λ is. c.in_ok-event.ensures.shows (cc);
-      breaks = λ b is why no_run. rw same (breaks_last s a b is (sym c.events.invariant.view ∙ why) no_run);
+      breaks = λ b is why no_run. rw same (breaks_last (s.keeps (sym c.events.invariant.view ∙ why)) a b is no_run);
       same = same ∙ sym c.events.invariant.profile;
     }
 

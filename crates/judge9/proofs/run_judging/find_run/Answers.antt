@@ -8,12 +8,12 @@ pub returns-in_err-keep_all : goal.returns-in_err-keep_all
 returns-in_err-keep_all g c = rw (handed c.from_residual.result c.from_residual.ensures.1) (run_failed c.in_err-keep_all.field-0.0 c.in_err-keep_all.ensures)
 
 pub returns-in-No : goal.returns-in-No
-returns-in-No g c = run_missing c.requires.first c.in_ok-keep_all.ensures c.in-No.at c.in-No.reason (sym c.in-No.is ∙ c.verdict_of.ensures)
+returns-in-No g c = run_missing c.requires.first c.in_ok-keep_all.ensures c.in-No.at c.in-No.reason (sym c.in-No.is ∙ c.verdict.ensures)
 
 pub states_of_run-requires-clause-some : goal.states_of_run-requires-clause-some
-states_of_run-requires-clause-some g c = some_left c.requires.first c.in_ok-keep_all.ensures (sym c.in-Yes.is ∙ c.verdict_of.ensures)
+states_of_run-requires-clause-some g c = some_left c.requires.first c.in_ok-keep_all.ensures (sym c.in-Yes.is ∙ c.verdict.ensures)
 
 pub returns-in_ok-states-in-Yes : goal.returns-in_ok-states-in-Yes
 returns-in_ok-states-in-Yes g c =
-    run_found c.requires.first c.in_ok-keep_all.ensures (sym c.in-Yes.is ∙ c.verdict_of.ensures) _ c.keep_all.new.kept.exchanges c.in_ok-states-in-Yes.states refl
+    run_found c.requires.first c.in_ok-keep_all.ensures (sym c.in-Yes.is ∙ c.verdict.ensures) _ c.keep_all.new.kept.exchanges c.in_ok-states-in-Yes.states refl
     (rw c.deref.ensures.value at c.in_ok-states-in-Yes.ensures) (ap (λ (t : Totals). t.passed_over) c.totals.ensures)
