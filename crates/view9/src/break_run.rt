@@ -1,0 +1,58 @@
+//! Equal breaks in a row, which are told in one line.
+
+use crate::decimal::put_seconds;
+use crate::seen::SeenBreak;
+use report9::{put_count, put_no_line, put_text, put_word};
+use std::alloc::AllocError;
+
+/// Breaks in a row of one rule, with the same command open, where an exchange or a late reply comes between no two of them.
+#[derive(Clone, Copy)]
+pub struct BreakRun {
+    first: SeenBreak,
+    /// The number of the last one's record.
+    last_at: u32,
+    /// Its time, in microseconds.
+    last_us: u64,
+    breaks: u32,
+}
+
+impl BreakRun {
+    /// Of one break.
+    pub fn new(first: &SeenBreak) -> BreakRun {
+        BreakRun {
+            first: *first,
+            last_at: first.at,
+            last_us: first.time_us,
+            breaks: 1,
+        }
+    }
+
+    /// Takes the break that comes next, where it is equal: whether it is.
+    pub fn take(&mut self, next: &SeenBreak) -> bool {
+        let is_equal = next.reason == self.first.reason && next.open == self.first.open;
+        if is_equal {
+            self.last_at = next.at;
+            self.last_us = next.time_us;
+            self.breaks = self.breaks.saturating_add(1);
+        }
+        is_equal
+    }
+
+    /// Puts their line.
+    pub fn put(&self, line: &mut Vec<u8>) -> Result<(), AllocError> {
+        let first = &self.first;
+        if self.breaks == 1 {
+            return put_no_line(line, first.at, first.reason);
+        }
+        put_count(line, "no at records ", u64::from(first.at))?;
+        put_count(line, " to ", u64::from(self.last_at))?;
+        put_text(line, ", ")?;
+        put_seconds(line, first.time_us)?;
+        put_text(line, " s to ")?;
+        put_seconds(line, self.last_us)?;
+        put_word(line, " s: ", first.reason.name())?;
+        put_word(line, " ", first.reason.text())?;
+        put_count(line, ", ", u64::from(self.breaks))?;
+        put_text(line, " times\n")
+    }
+}

@@ -1,0 +1,141 @@
+//! What an exchange changes of what is known of the deck.
+
+use crate::field::{FIELDS, Field, Value};
+use crate::seen::SeenExchange;
+use deck9::Hands;
+use report9::{put_text, put_word};
+use std::alloc::{AllocError, Global};
+use tc25::Rate;
+
+/// A field of which something else is known than before.
+#[derive(Clone, Copy, Debug, PartialEq, Eq)]
+pub struct Change {
+    /// The field.
+    pub field: Field,
+    /// What it was last known to be; unknown where it never was known.
+    pub from: Value,
+    /// Whether a break made it unknown since.
+    pub is_forgotten: bool,
+    /// What is known now.
+    pub to: Value,
+}
+
+/// What a field was last known to be.
+#[derive(Clone, Copy)]
+struct LastKnown {
+    value: Value,
+    /// Whether that is known still.
+    is_known: bool,
+    /// Whether a break made it unknown.
+    is_forgotten: bool,
+    /// Whether it was told that it is known no more.
+    is_lapse_told: bool,
+}
+
+/// Nothing was known of a field yet.
+const NEVER_KNOWN: LastKnown = LastKnown {
+    value: Value::Unknown,
+    is_known: false,
+    is_forgotten: false,
+    is_lapse_told: false,
+};
+
+/// Follows what is known of the deck, from one exchange to the next.
+#[derive(Drop)]
+pub struct Changes {
+    hands: Hands,
+    last: [LastKnown; FIELDS],
+    changes: Vec<Change>,
+    is_news: bool,
+}
+
+impl Changes {
+    /// Before the first exchange.
+    pub fn new(alloc: Global, hands: Hands) -> Changes {
+        Changes {
+            hands,
+            last: [NEVER_KNOWN; FIELDS],
+            changes: Vec::new(alloc),
+            is_news: false,
+        }
+    }
+
+    /// A break came: nothing is known from here on.
+    pub fn forget(&mut self) {
+        for last in self.last.iter_mut() {
+            *last = LastKnown {
+                value: last.value,
+                is_forgotten: true,
+                ..NEVER_KNOWN
+            };
+        }
+    }
+
+    /// Takes what is known after the next exchange.
+    pub fn take(&mut self, seen: &SeenExchange<'_>) -> Result<(), AllocError> {
+        self.changes.clear();
+        self.is_news = false;
+        if seen.before == Some(seen.after) {
+            return Ok(()); // which is so of most queries
+        }
+        for field in Field::told(self.hands) {
+            self.take_field(*field, field.value_in(&seen.after))?;
+        }
+        Ok(())
+    }
+
+    /// Takes what is known of a field.
+    fn take_field(&mut self, field: Field, now: Value) -> Result<(), AllocError> {
+        let last = &mut self.last[field as usize];
+        let change = Change {
+            field,
+            from: last.value,
+            is_forgotten: last.is_forgotten,
+            to: now,
+        };
+        if !now.is_known() {
+            if last.is_known {
+                last.is_known = false;
+                self.is_news |= !field.is_mode() && !last.is_lapse_told;
+                last.is_lapse_told |= !field.is_mode();
+                self.changes.push(change)?;
+            }
+        } else if last.is_forgotten || now != last.value {
+            *last = LastKnown {
+                value: now,
+                is_known: true,
+                ..NEVER_KNOWN
+            };
+            self.is_news = true;
+            self.changes.push(change)?;
+        } else {
+            last.is_known = true;
+        }
+        Ok(())
+    }
+
+    /// What the last exchange changed.
+    pub fn as_slice(&self) -> &[Change] {
+        self.changes.as_slice()
+    }
+
+    /// Whether that is told by itself, though the exchange only asked.
+    pub fn is_news(&self) -> bool {
+        self.is_news
+    }
+}
+
+/// Puts changes, with times at this rate.
+pub fn put_changes(line: &mut Vec<u8>, changes: &[Change], rate: Rate) -> Result<(), AllocError> {
+    for change in changes {
+        put_word(line, ", ", change.field.name())?;
+        put_text(line, ": ")?;
+        change.from.put(line, rate)?;
+        if change.is_forgotten && change.from.is_known() {
+            put_text(line, ", unknown")?;
+        }
+        put_text(line, " => ")?;
+        change.to.put(line, rate)?;
+    }
+    Ok(())
+}

@@ -1,0 +1,163 @@
+//! The times of a report as a clock or in seconds, so that a record can be found again in the log or in the analyser that the capture
+//! came from. It takes any text.
+
+use crate::decimal::put_seconds;
+use report9::{TimeForm, WriteFault, put_count, put_text, write_all};
+use std::alloc::{AllocError, Global};
+use std::io::{self, BufRead, ErrorKind, Write};
+
+/// Why a text was not written to its end.
+#[derive(Clone, Copy, Debug, PartialEq, Eq)]
+pub enum ClockFault {
+    /// It can't be read.
+    Read,
+    /// It can't be written.
+    Write,
+    /// A growth of memory was refused: a line is too long.
+    OutOfMemory,
+}
+
+/// The most digits of a time in microseconds.
+const MOST_DIGITS: usize = 15;
+
+/// Writes the text that the reader gives with its times in a form, each line as soon as it is read. What is rewritten is `at` with a
+/// whole number of microseconds after it, up to a colon and a blank, a comma or the end of the line; and as a clock also the seconds
+/// at the beginning of a line of a digest or a motion. All else passes unchanged. It keeps one line, and the writer is not flushed.
+pub fn write_clock<R: BufRead, W: Write>(
+    alloc: Global,
+    reader: &mut R,
+    writer: &mut W,
+    form: TimeForm,
+) -> Result<(), ClockFault> {
+    let mut line = Vec::new(alloc);
+    let mut text = Vec::new(alloc);
+    for _ in 0..u64::MAX {
+        line.clear();
+        if reader.read_until(b'\n', &mut line)? == 0 {
+            break;
+        }
+        text.clear();
+        let rest = match form {
+            TimeForm::Clock => put_head(&mut text, line.as_slice())?,
+            TimeForm::Seconds => line.as_slice(),
+        };
+        put_times(&mut text, rest, form)?;
+        write_all(writer, text.as_slice())?;
+    }
+    Ok(())
+}
+
+/// Puts a line of a digest or a motion up to its time, and the time as a clock: what comes after it. Of another line that is all.
+fn put_head<'a>(text: &mut Vec<u8>, line: &'a [u8]) -> Result<&'a [u8], AllocError> {
+    let Some((before, time_us, after)) = parts_of_head(line) else {
+        return Ok(line);
+    };
+    text.extend_from_slice(before)?;
+    put_time(text, time_us, TimeForm::Clock)?;
+    Ok(after)
+}
+
+/// What stands before the time of a line of a digest or a motion, the time in microseconds, and what stands after its unit.
+fn parts_of_head(line: &[u8]) -> Option<(&[u8], u64, &[u8])> {
+    let blanks = line.iter().take_while(|byte| **byte == b' ').count();
+    let (number, rest) = split_digits(line.get(blanks..)?.strip_prefix(b"record ")?);
+    let seconds = rest.strip_prefix(b", ")?;
+    let (whole, rest) = split_digits(seconds);
+    let (decimals, rest) = split_digits(rest.strip_prefix(b".")?);
+    let after = rest.strip_prefix(b" s")?;
+    let is_time = decimals.len() == 6 && matches!(whole.len(), 1..=9) && after.starts_with(b": ");
+    if !is_time || !matches!(number, [b'1'..=b'9', ..]) {
+        return None;
+    }
+    let before = line.get(..line.len().saturating_sub(seconds.len()))?;
+    let whole_us = number_of(whole).saturating_mul(1_000_000);
+    Some((before, whole_us.saturating_add(number_of(decimals)), after))
+}
+
+/// Puts a text with each time that stands after `at` in a form.
+fn put_times(text: &mut Vec<u8>, line: &[u8], form: TimeForm) -> Result<(), AllocError> {
+    let mut done = 0;
+    for (at, word) in line.windows(4).enumerate() {
+        if word != b" at ".as_slice() {
+            continue;
+        }
+        let from = at.saturating_add(4);
+        let Some(digits) = time_at(line, from) else {
+            continue;
+        };
+        text.extend_from_slice(line.get(done..from).unwrap_or(&[]))?;
+        put_time(text, number_of(digits), form)?;
+        done = from.saturating_add(digits.len());
+    }
+    text.extend_from_slice(line.get(done..).unwrap_or(&[]))
+}
+
+/// The digits of a time from this place on, where one stands there.
+fn time_at(line: &[u8], from: usize) -> Option<&[u8]> {
+    let (digits, rest) = split_digits(line.get(from..)?);
+    let ends = match rest {
+        [b':', b' ', ..] | [b',', ..] => true,
+        [b':', others @ ..] => is_end(others),
+        others => is_end(others),
+    };
+    (ends && matches!(digits.len(), 1..=MOST_DIGITS)).then_some(digits)
+}
+
+/// Whether this is what a line ends with.
+fn is_end(rest: &[u8]) -> bool {
+    matches!(rest, [] | [b'\n'] | [b'\r'] | [b'\r', b'\n'])
+}
+
+/// The digits that a text begins with, and what comes after them.
+fn split_digits(text: &[u8]) -> (&[u8], &[u8]) {
+    let count = text.iter().take_while(|byte| byte.is_ascii_digit()).count();
+    text.split_at(count.min(text.len()))
+}
+
+/// The number that digits are.
+fn number_of(digits: &[u8]) -> u64 {
+    digits.iter().fold(0u64, |number, digit| {
+        let value = u64::from(digit.wrapping_sub(b'0'));
+        number.saturating_mul(10).saturating_add(value)
+    })
+}
+
+/// Puts a time in a form.
+fn put_time(text: &mut Vec<u8>, time_us: u64, form: TimeForm) -> Result<(), AllocError> {
+    if form == TimeForm::Seconds {
+        return put_seconds(text, time_us);
+    }
+    let minutes = time_us / 60_000_000;
+    let seconds_us = time_us % 60_000_000;
+    put_two_digits(text, "", minutes / 60)?;
+    put_two_digits(text, ":", minutes % 60)?;
+    put_text(text, if seconds_us < 10_000_000 { ":0" } else { ":" })?;
+    put_seconds(text, seconds_us)
+}
+
+/// Puts a label and a number in two digits, or more where it has more.
+fn put_two_digits(text: &mut Vec<u8>, label: &str, number: u64) -> Result<(), AllocError> {
+    put_text(text, label)?;
+    put_count(text, if number < 10 { "0" } else { "" }, number)
+}
+
+impl From<AllocError> for ClockFault {
+    fn from(_: AllocError) -> ClockFault {
+        ClockFault::OutOfMemory
+    }
+}
+
+impl From<WriteFault> for ClockFault {
+    fn from(_: WriteFault) -> ClockFault {
+        ClockFault::Write
+    }
+}
+
+impl From<io::Error> for ClockFault {
+    fn from(error: io::Error) -> ClockFault {
+        match error.kind() {
+            ErrorKind::OutOfMemory => ClockFault::OutOfMemory,
+            _ => ClockFault::Read,
+        }
+    }
+}

@@ -1,0 +1,235 @@
+//! How long the deck took to reply: for each command how many replies came and after how long, and a histogram of all of them.
+
+use crate::called::Called;
+use crate::decimal::put_right;
+use crate::delay_counts::DelayCounts;
+use crate::follow::show;
+use crate::seen::{Ending, SeenBreak, SeenExchange, SeenLate, View};
+use block9::{Exchange, REPLY_LIMIT_US};
+use deck9::Profile;
+use indexmap::IndexMap;
+use report9::{JudgeError, Scope, Stretch, put_count, put_text, write_all};
+use std::alloc::{AllocError, Global};
+use std::io::{Read, Write};
+
+/// How many microseconds a bar of the histogram is for.
+const BAR_US: u64 = 500;
+
+/// How many bars it has: those up to the reply limit.
+const BARS: usize = (REPLY_LIMIT_US / BAR_US) as usize + 1;
+
+/// How many marks the longest bar has.
+const MOST_MARKS: u64 = 50;
+
+/// How many late replies are listed. The others are counted.
+const MOST_LATE: usize = 100;
+
+/// Writes how long the deck took to reply in the capture that the reader gives: how the capture ends. All is written at the end. The
+/// writer is not flushed.
+pub fn write_delays<R: Read + Drop, W: Write>(
+    alloc: Global,
+    reader: R,
+    writer: &mut W,
+    scope: Scope,
+    stretch: Stretch,
+    profile: &Profile,
+) -> Result<Ending, JudgeError> {
+    let mut view = Delays::new(alloc, writer, profile);
+    show(alloc, reader, &mut view, scope, stretch, profile)
+}
+
+/// A late reply.
+#[derive(Clone, Copy)]
+struct LateReply {
+    at: u32,
+    delay_us: u64,
+}
+
+/// The delays so far.
+#[derive(Drop)]
+struct Delays<'a, W: Write> {
+    alloc: Global,
+    profile: &'a Profile,
+    writer: &'a mut W,
+    /// The delays of each command's replies, in the order in which the commands first came.
+    of_command: IndexMap<Called<'a>, DelayCounts>,
+    /// The first late replies.
+    late: Vec<LateReply>,
+    late_replies: u64,
+}
+
+impl<'a, W: Write> Delays<'a, W> {
+    /// Of no reply.
+    fn new(alloc: Global, writer: &'a mut W, profile: &'a Profile) -> Delays<'a, W> {
+        Delays {
+            alloc,
+            profile,
+            writer,
+            of_command: IndexMap::new(alloc),
+            late: Vec::new(alloc),
+            late_replies: 0,
+        }
+    }
+
+    /// Counts the reply of an exchange.
+    fn count(&mut self, exchange: &Exchange) -> Result<(), AllocError> {
+        let alloc = self.alloc;
+        let called = Called::of(self.profile, exchange);
+        let counts = self
+            .of_command
+            .entry(called)?
+            .or_insert_with(|| DelayCounts::new(alloc));
+        counts.add(exchange.delay_us, 1)
+    }
+
+    /// Takes a late reply.
+    fn take_late(&mut self, at: u32, delay_us: u64) -> Result<(), AllocError> {
+        self.late_replies = self.late_replies.saturating_add(1);
+        if self.late.len() < MOST_LATE {
+            self.late.push(LateReply { at, delay_us })?;
+        }
+        Ok(())
+    }
+
+    /// The delays of all replies.
+    fn all(&self) -> Result<DelayCounts, AllocError> {
+        let mut all = DelayCounts::new(self.alloc);
+        for counts in self.of_command.values() {
+            for (delay_us, replies) in counts.iter() {
+                all.add(*delay_us, *replies)?;
+            }
+        }
+        Ok(all)
+    }
+
+    /// Puts a line for each command, and one for all of them.
+    fn put_table(&self, text: &mut Vec<u8>, all: &DelayCounts) -> Result<(), AllocError> {
+        put_text(text, "replies  least middle   99th greatest  command\n")?;
+        for (called, counts) in self.of_command.iter() {
+            put_counts(text, counts)?;
+            called.put(text)?;
+            put_text(text, "\n")?;
+        }
+        put_counts(text, all)?;
+        put_text(text, "all\n")
+    }
+
+    /// Puts the late replies.
+    fn put_late(&self, text: &mut Vec<u8>) -> Result<(), AllocError> {
+        for late in self.late.iter() {
+            put_right(text, late.delay_us, 12)?;
+            put_count(text, " |late reply at record ", u64::from(late.at))?;
+            put_count(text, ", ", late.delay_us.saturating_sub(REPLY_LIMIT_US))?;
+            put_text(text, " above the limit\n")?;
+        }
+        let others = self.late_replies.saturating_sub(MOST_LATE as u64);
+        if others > 0 {
+            put_count(text, "         ... |and ", others)?;
+            put_text(text, " late replies more\n")?;
+        }
+        Ok(())
+    }
+
+    /// Puts all of it.
+    fn put(&self, text: &mut Vec<u8>, ending: &Ending) -> Result<(), AllocError> {
+        let all = self.all()?;
+        if all.replies() > 0 {
+            self.put_table(text, &all)?;
+            put_histogram(text, &all)?;
+        } else {
+            put_text(text, "no whole exchange\n")?;
+        }
+        put_count(text, "  limit ", REPLY_LIMIT_US)?;
+        put_text(text, " |")?;
+        put_marks(text, "-", MOST_MARKS)?;
+        put_text(text, "\n")?;
+        self.put_late(text)?;
+        ending.put(text)
+    }
+}
+
+impl<W: Write> View for Delays<'_, W> {
+    fn exchange(&mut self, seen: &SeenExchange<'_>) -> Result<(), JudgeError> {
+        if seen.is_shown {
+            self.count(seen.exchange)?;
+        }
+        Ok(())
+    }
+
+    fn late(&mut self, late: &SeenLate) -> Result<(), JudgeError> {
+        if late.is_shown {
+            self.take_late(late.at, late.delay_us)?;
+        }
+        Ok(())
+    }
+
+    fn broken(&mut self, broken: &SeenBreak) -> Result<(), JudgeError> {
+        match broken.delay_us {
+            Some(delay_us) if broken.is_shown => Ok(self.take_late(broken.at, delay_us)?),
+            _ => Ok(()),
+        }
+    }
+
+    fn end(&mut self, ending: &Ending) -> Result<(), JudgeError> {
+        let mut text = Vec::new(self.alloc);
+        self.put(&mut text, ending)?;
+        Ok(write_all(self.writer, text.as_slice())?)
+    }
+}
+
+/// Puts how many replies there are, and the least delay of them, the middle one, the 99th of a hundred and the greatest.
+fn put_counts(text: &mut Vec<u8>, counts: &DelayCounts) -> Result<(), AllocError> {
+    let replies = counts.replies();
+    put_right(text, replies, 7)?;
+    for place in [
+        1,
+        replies.div_ceil(2),
+        replies.saturating_mul(99).div_ceil(100),
+    ] {
+        put_text(text, " ")?;
+        put_right(text, counts.at_place(place), 6)?;
+    }
+    put_text(text, " ")?;
+    put_right(text, counts.at_place(replies), 8)?;
+    put_text(text, "  ")
+}
+
+/// Puts a bar for each stretch of delays up to the limit, with how many replies began then.
+fn put_histogram(text: &mut Vec<u8>, all: &DelayCounts) -> Result<(), AllocError> {
+    let bars = bars_of(all);
+    let greatest = bars.iter().copied().max().unwrap_or(0);
+    let mut from = 0u64;
+    for replies in bars {
+        let next = from.saturating_add(BAR_US);
+        put_right(text, from, 4)?;
+        put_text(text, " to ")?;
+        put_right(text, next.saturating_sub(1).min(REPLY_LIMIT_US), 4)?;
+        put_text(text, " |")?;
+        let marks = replies.saturating_mul(MOST_MARKS).div_ceil(greatest.max(1));
+        put_marks(text, "#", marks)?;
+        put_count(text, " ", replies)?;
+        put_text(text, "\n")?;
+        from = next;
+    }
+    Ok(())
+}
+
+/// How many replies began in each stretch of delays up to the limit.
+fn bars_of(all: &DelayCounts) -> [u64; BARS] {
+    let mut bars = [0u64; BARS];
+    for (delay_us, replies) in all.iter() {
+        if *delay_us <= REPLY_LIMIT_US {
+            let bar = (*delay_us / BAR_US) as usize;
+            bars[bar] = bars[bar].saturating_add(*replies);
+        }
+    }
+    bars
+}
+
+/// Puts so many marks.
+fn put_marks(text: &mut Vec<u8>, mark: &str, marks: u64) -> Result<(), AllocError> {
+    for _ in 0..marks {
+        put_text(text, mark)?;
+    }
+    Ok(())
+}

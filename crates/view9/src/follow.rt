@@ -1,0 +1,123 @@
+//! The one loop over what a judging comes to, for every view.
+ghost use Rattle.judge9.specs.Standing.{CanGoOn, ShowsExchange};
+
+use crate::seen::{Ending, SeenBreak, SeenExchange, SeenLate, View};
+use block9::Reason;
+use capture9::LineByte;
+use deck9::{Knowledge, Profile};
+use judge9::{Break, Event, Judging};
+use report9::{Extent, JudgeError, Scope, Stretch};
+use std::alloc::Global;
+use std::io::Read;
+
+/// Judges the capture that the reader gives, and shows the view what it comes to: how it ends. The records are read once, and none is
+/// kept. Errors are those of the judging, and the view's own; after one the view is told of nothing more.
+pub fn show<R: Read + Drop, V: View>(
+    alloc: Global,
+    reader: R,
+    view: &mut V,
+    scope: Scope,
+    stretch: Stretch,
+    profile: &Profile,
+) -> Result<Ending, JudgeError> {
+    let mut judging = Judging::new(alloc, reader, scope, profile)?;
+    let shown = show_events(&mut judging, view, stretch);
+    let ending = ending_of(&judging, scope.extent);
+    drop(judging);
+    shown?;
+    view.end(&ending)?;
+    Ok(ending)
+}
+
+/// Shows all events up to the end.
+fn show_events<R: Read + Drop, V: View>(
+    judging: &mut Judging<R>,
+    view: &mut V,
+    stretch: Stretch,
+) -> Result<(), JudgeError>
+    requires { CanGoOn judging.old.stage judging.old.feed }
+{
+    let mut known = None;
+    'events: loop {
+        match judging.next()? {
+            Event::Exchange => {
+                let seen = see_exchange(judging, known, stretch);
+                view.exchange(&seen)?;
+                known = Some(seen.after);
+            }
+            Event::LateReply(first) => view.late(&see_late(judging, first, stretch))?,
+            Event::Break(broken) => {
+                known = None;
+                view.broken(&see_break(judging, broken, stretch))?;
+            }
+            Event::End => return Ok(()),
+        }
+    }
+}
+
+/// The exchange that the judging came to.
+fn see_exchange<'e, R: Read + Drop>(
+    judging: &'e Judging<'_, R>,
+    before: Option<Knowledge>,
+    stretch: Stretch,
+) -> SeenExchange<'e>
+    requires { ShowsExchange judging.now.feed }
+{
+    let exchange = judging.exchange();
+    let last = judging.at();
+    let end_us = judging.time_us().unwrap_or(exchange.time_us);
+    SeenExchange {
+        first: last
+            .saturating_sub(exchange.records() as u32)
+            .saturating_add(1),
+        last,
+        end_us,
+        exchange,
+        before,
+        after: judging.knowledge(),
+        is_shown: stretch.has(end_us),
+    }
+}
+
+/// The late reply that the judging came to, which begins with this record.
+fn see_late<R: Read + Drop>(judging: &Judging<R>, first: LineByte, stretch: Stretch) -> SeenLate {
+    SeenLate {
+        at: judging.at(),
+        time_us: first.time_us,
+        delay_us: since_command(judging, first),
+        is_shown: stretch.has(first.time_us),
+    }
+}
+
+/// The break that the judging came to.
+fn see_break<R: Read + Drop>(judging: &Judging<R>, broken: Break, stretch: Stretch) -> SeenBreak {
+    let delay_us = match broken.reason {
+        Reason::LateReply => Some(since_command(judging, broken.record)),
+        _ => None,
+    };
+    SeenBreak {
+        at: judging.at(),
+        time_us: broken.record.time_us,
+        reason: broken.reason,
+        open: judging.open().command,
+        delay_us,
+        is_shown: stretch.has(broken.record.time_us),
+    }
+}
+
+/// The time from the last record of the command that is open to this record, in microseconds; 0 where none is open.
+fn since_command<R: Read + Drop>(judging: &Judging<R>, record: LineByte) -> u64 {
+    let asked = judging.open().asked;
+    match judging.tail().get(asked.saturating_sub(1)) {
+        Some(last) => record.time_us.saturating_sub(last.time_us),
+        None => 0,
+    }
+}
+
+/// What a judging that has ended comes to.
+pub(crate) fn ending_of<R: Read + Drop>(judging: &Judging<R>, extent: Extent) -> Ending {
+    match extent {
+        Extent::FirstBreak => Ending::Verdict(judging.verdict()),
+        Extent::WholeCapture => Ending::Totals(judging.totals()),
+    }
+}

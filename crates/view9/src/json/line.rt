@@ -1,0 +1,208 @@
+//! A line of JSON: an object, member by member.
+
+use crate::field::Field;
+use crate::json::told::Told;
+use bitflags::Flags;
+use block9::{Command, Exchange, NakBits, Reason};
+use deck9::{Knowledge, Profile};
+use report9::{
+    JudgeError, Totals, put_block, put_command, put_hex, put_reply, status_in, time_told, write_all,
+};
+use serde::{Described, Serialize, Serializer};
+use std::alloc::{AllocError, Global};
+use std::io::Write;
+use tc25::{Rate, TimeCode};
+
+/// Room for the members that most lines have.
+const MEMBERS: usize = 24;
+
+/// An object, which stands on a line of its own.
+#[derive(Drop)]
+pub(super) struct Line<'a> {
+    members: Vec<(&'a str, Told<'a>)>,
+}
+
+impl Described for Line<'_> {}
+
+impl Serialize for Line<'_> {
+    fn serialize<S: Serializer>(&self, out: &mut S) -> Result<(), S::Error> {
+        out.begin_map(None)?;
+        for (name, told) in &self.members {
+            out.key(name)?;
+            told.serialize(out)?;
+        }
+        out.end_map()
+    }
+}
+
+impl<'a> Line<'a> {
+    /// A line of this kind.
+    pub(super) fn new(alloc: Global, kind: &'a str) -> Result<Line<'a>, AllocError> {
+        let mut line = Line {
+            members: Vec::with_capacity(alloc, MEMBERS)?,
+        };
+        line.put("line", Told::Word(kind))?;
+        Ok(line)
+    }
+
+    /// The verdict, where it is a yes.
+    pub(super) fn yes(
+        alloc: Global,
+        records: u32,
+        exchanges: u64,
+        open: u32,
+    ) -> Result<Line<'a>, AllocError> {
+        let mut line = Line::new(alloc, "verdict")?;
+        line.put("verdict", Told::Word("yes"))?;
+        line.put_counts(&[
+            ("records", u64::from(records)),
+            ("exchanges", exchanges),
+            ("open", u64::from(open)),
+        ])?;
+        Ok(line)
+    }
+
+    /// The verdict, where it is a no.
+    pub(super) fn no(alloc: Global, at: u32, reason: Reason) -> Result<Line<'a>, AllocError> {
+        let mut line = Line::new(alloc, "verdict")?;
+        line.put("verdict", Told::Word("no"))?;
+        line.put_break(at, reason)?;
+        Ok(line)
+    }
+
+    /// A late reply that ends no part.
+    pub(super) fn late(alloc: Global, at: u32) -> Result<Line<'a>, AllocError> {
+        let mut line = Line::new(alloc, "late_reply")?;
+        line.put_break(at, Reason::LateReply)?;
+        Ok(line)
+    }
+
+    /// The totals.
+    pub(super) fn totals(alloc: Global, totals: &Totals) -> Result<Line<'a>, AllocError> {
+        let mut line = Line::new(alloc, "breaks")?;
+        line.put_counts(&[
+            ("breaks", totals.breaks),
+            ("records", u64::from(totals.records)),
+            ("exchanges", u64::from(totals.exchanges)),
+            ("passed_over", u64::from(totals.passed_over)),
+            ("open", u64::from(totals.tail)),
+        ])?;
+        Ok(line)
+    }
+
+    /// Puts a member to the end.
+    pub(super) fn put(&mut self, name: &'a str, told: Told<'a>) -> Result<(), AllocError> {
+        Ok(self.members.push((name, told))?)
+    }
+
+    /// Puts a member that is a text, which is put so.
+    pub(super) fn put_text<F: FnOnce(&mut Vec<u8>) -> Result<(), AllocError>>(
+        &mut self,
+        name: &'a str,
+        put: F,
+    ) -> Result<(), AllocError>
+        requires { F.IsAlwaysCallable put }
+    {
+        let mut text = Vec::new(*self.members.allocator());
+        put(&mut text)?;
+        self.put(name, Told::Text(text))
+    }
+
+    /// Puts a byte.
+    pub(super) fn put_byte(&mut self, name: &'a str, byte: u8) -> Result<(), AllocError> {
+        self.put_text(name, |text| put_hex(text, u32::from(byte)))
+    }
+
+    /// Puts numbers, each by its name.
+    pub(super) fn put_counts(&mut self, counts: &[(&'a str, u64)]) -> Result<(), AllocError> {
+        for (name, count) in counts {
+            self.put(name, Told::Count(*count))?;
+        }
+        Ok(())
+    }
+
+    /// Puts a time, where there is one.
+    pub(super) fn put_time(
+        &mut self,
+        name: &'a str,
+        rate: Rate,
+        time: Option<TimeCode>,
+    ) -> Result<(), AllocError> {
+        match time {
+            Some(time) => self.put(name, Told::Time(time.text_at(rate))),
+            None => Ok(()),
+        }
+    }
+
+    /// Puts what a command is called, where it has a name.
+    pub(super) fn put_name(
+        &mut self,
+        profile: &'a Profile,
+        command: &Command,
+    ) -> Result<(), AllocError> {
+        match profile.name_of(command) {
+            Some(name) => self.put("command", Told::Name(name)),
+            None => Ok(()),
+        }
+    }
+
+    /// Puts what the command and the reply of an exchange are called, with the bits of a NAK.
+    pub(super) fn put_called(
+        &mut self,
+        profile: &Profile,
+        exchange: &Exchange,
+    ) -> Result<(), AllocError> {
+        self.put_text("command", |text| put_command(text, "", profile, exchange))?;
+        let reply = &exchange.reply;
+        match NakBits::of(reply) {
+            Some(nak) => {
+                self.put("reply", Told::Word("NAK"))?;
+                self.put_byte("nak", nak.bits())?;
+                self.put("bits", Told::Bits(nak))
+            }
+            None => self.put_text("reply", |text| put_reply(text, "", reply)),
+        }
+    }
+
+    /// Puts what is known of these fields.
+    pub(super) fn put_fields(
+        &mut self,
+        profile: &Profile,
+        known: &Knowledge,
+        fields: &[Field],
+    ) -> Result<(), AllocError> {
+        for field in fields {
+            self.put(field.name(), Told::of(*field, known, profile.rate))?;
+        }
+        Ok(())
+    }
+
+    /// Puts the times and the bytes of an exchange.
+    pub(super) fn put_blocks(&mut self, rate: Rate, exchange: &Exchange) -> Result<(), AllocError> {
+        self.put_time("command_time", rate, exchange.command.time())?;
+        self.put_text("command_bytes", |text| put_block(text, &exchange.block))?;
+        self.put_time("reply_time", rate, time_told(rate, exchange))?;
+        self.put_text("reply_bytes", |text| put_block(text, &exchange.reply))
+    }
+
+    /// Puts what an exchange's reply says.
+    pub(super) fn put_says(&mut self, exchange: &Exchange) -> Result<(), AllocError> {
+        self.put("says", Told::Says(status_in(exchange)))
+    }
+
+    /// Puts the record that breaks a rule, and the rule.
+    pub(super) fn put_break(&mut self, record: u32, reason: Reason) -> Result<(), AllocError> {
+        self.put("record", Told::Count(u64::from(record)))?;
+        self.put("reason", Told::Word(reason.name()))?;
+        self.put("text", Told::Word(reason.text()))
+    }
+
+    /// Writes the line. Of its text only the memory can be refused.
+    pub(super) fn write<W: Write>(&self, alloc: Global, writer: &mut W) -> Result<(), JudgeError> {
+        let Ok(mut text) = serde_json::to_vec(alloc, self) else {
+            return Err(JudgeError::OutOfMemory);
+        };
+        text.push(b'\n').map_err(AllocError::from)?;
+        Ok(write_all(writer, text.as_slice())?)
+    }
+}

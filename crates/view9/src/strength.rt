@@ -1,0 +1,164 @@
+//! How much was known of the deck, and what took it away: how strong a yes is.
+
+use crate::called::Called;
+use crate::field::{FIELDS, Field, Value};
+use crate::seen::SeenExchange;
+use block9::{Command, Exchange};
+use deck9::Profile;
+use indexmap::IndexMap;
+use report9::{put_count, put_text, put_word};
+use std::alloc::{AllocError, Global};
+
+/// At how many exchanges a field was known.
+#[derive(Clone, Copy)]
+struct Times {
+    known: u32,
+    /// A register is known to be set, but not to which time.
+    set: u32,
+}
+
+/// A field that was never known.
+const NEVER: Times = Times { known: 0, set: 0 };
+
+/// At how many exchanges each field was known, and after which commands it was known no more. A count stays at its greatest once
+/// that is reached.
+#[derive(Drop)]
+pub struct Strength<'a> {
+    profile: &'a Profile,
+    exchanges: u32,
+    presets: u32,
+    times: [Times; FIELDS],
+    /// How often each field was known no more after a command.
+    lapses: IndexMap<Called<'a>, [u32; FIELDS]>,
+}
+
+impl<'a> Strength<'a> {
+    /// Before the first exchange.
+    pub fn new(alloc: Global, profile: &'a Profile) -> Strength<'a> {
+        Strength {
+            profile,
+            exchanges: 0,
+            presets: 0,
+            times: [NEVER; FIELDS],
+            lapses: IndexMap::new(alloc),
+        }
+    }
+
+    /// Counts an exchange.
+    pub fn count(&mut self, seen: &SeenExchange<'_>) -> Result<(), AllocError> {
+        self.exchanges = self.exchanges.saturating_add(1);
+        if is_preset(seen.exchange) {
+            self.presets = self.presets.saturating_add(1);
+        }
+        for field in Field::told(self.profile.hands) {
+            let times = &mut self.times[*field as usize];
+            match field.value_in(&seen.after) {
+                Value::Set => times.set = times.set.saturating_add(1),
+                Value::Unknown => self.count_lapse(*field, seen)?,
+                _ => times.known = times.known.saturating_add(1),
+            }
+        }
+        Ok(())
+    }
+
+    /// Counts that a field is known no more after an exchange, where it was known before.
+    fn count_lapse(&mut self, field: Field, seen: &SeenExchange<'_>) -> Result<(), AllocError> {
+        let was_known = match &seen.before {
+            Some(before) => field.value_in(before).is_known(),
+            None => false,
+        };
+        if was_known && field.is_kept() {
+            let called = Called::of(self.profile, seen.exchange);
+            let lapses = self.lapses.entry(called)?.or_insert([0; FIELDS]);
+            lapses[field as usize] = lapses[field as usize].saturating_add(1);
+        }
+        Ok(())
+    }
+
+    /// Puts the lines that tell it, where there was an exchange.
+    pub fn put(&self, line: &mut Vec<u8>) -> Result<(), AllocError> {
+        if self.exchanges == 0 {
+            return Ok(());
+        }
+        self.put_known(line)?;
+        if self.presets > 0 && self.times[Field::Local as usize].known == 0 {
+            put_ignored(line, self.presets)?;
+        }
+        for (called, lapses) in self.lapses.iter() {
+            put_text(line, "no longer known after ")?;
+            called.put(line)?;
+            put_lapses(line, lapses)?;
+        }
+        Ok(())
+    }
+
+    /// Puts at how many of the exchanges each field was known.
+    fn put_known(&self, line: &mut Vec<u8>) -> Result<(), AllocError> {
+        put_count(line, "known, of ", u64::from(self.exchanges))?;
+        put_text(line, " exchanges: ")?;
+        for field in &Field::ALL {
+            if *field != Field::Shown && !field.is_kept() {
+                continue;
+            }
+            // The shown mode comes first of them.
+            put_text(line, if *field == Field::Shown { "" } else { ", " })?;
+            put_word(line, field.name(), " ")?;
+            let times = self.times[*field as usize];
+            put_share(line, times.known, self.exchanges)?;
+            if times.set > 0 {
+                put_text(line, " (set ")?;
+                put_share(line, times.set, self.exchanges)?;
+                put_text(line, ")")?;
+            }
+        }
+        put_text(line, "\n")
+    }
+}
+
+/// Whether a data preset was acknowledged.
+fn is_preset(exchange: &Exchange) -> bool {
+    let is_preset = matches!(
+        exchange.command,
+        Command::InDataPreset { .. }
+            | Command::OutDataPreset { .. }
+            | Command::AudioInDataPreset { .. }
+            | Command::AudioOutDataPreset { .. }
+    );
+    is_preset && exchange.reply.is_ack()
+}
+
+/// Puts a share of a whole, as a percentage that is rounded down to a tenth.
+fn put_share(line: &mut Vec<u8>, part: u32, whole: u32) -> Result<(), AllocError> {
+    let tenths = u64::from(part) * 1000 / u64::from(whole).max(1);
+    put_count(line, "", tenths / 10)?;
+    put_count(line, ".", tenths % 10)?;
+    put_text(line, " %")
+}
+
+/// Puts what a deck in LOCAL may have done to the presets, where local was never known.
+fn put_ignored(line: &mut Vec<u8>, presets: u32) -> Result<(), AllocError> {
+    put_text(
+        line,
+        "local was never known: a deck in LOCAL may have ignored the ",
+    )?;
+    if presets == 1 {
+        put_text(line, "preset")?;
+    } else {
+        put_count(line, "", u64::from(presets))?;
+        put_text(line, " presets")?;
+    }
+    put_text(line, " that it acknowledged\n")
+}
+
+/// Puts how often each field was known no more.
+fn put_lapses(line: &mut Vec<u8>, lapses: &[u32; FIELDS]) -> Result<(), AllocError> {
+    let lapsed = Field::ALL
+        .iter()
+        .filter(|field| lapses[**field as usize] > 0);
+    for (place, field) in lapsed.enumerate() {
+        put_text(line, if place == 0 { ": " } else { ", " })?;
+        put_word(line, field.name(), " ")?;
+        put_count(line, "", u64::from(lapses[*field as usize]))?;
+    }
+    put_text(line, "\n")
+}

@@ -1,0 +1,69 @@
+//! The queries that are counted and not told.
+
+use crate::called::Called;
+use bitflags::Flags;
+use block9::{Exchange, NakBits};
+use deck9::Profile;
+use indexmap::IndexMap;
+use report9::{put_count, put_nak, put_text};
+use std::alloc::{AllocError, Global};
+
+/// A query, as far as one is told from another: those that the deck refused are apart, with its reasons.
+#[derive(Clone, Copy, PartialEq, Eq, Hash)]
+struct Query<'a> {
+    called: Called<'a>,
+    nak: Option<u8>,
+}
+
+/// How often each query came, in the order in which they first came. A count stays at its greatest once that is reached.
+#[derive(Drop)]
+pub struct Tally<'a> {
+    profile: &'a Profile,
+    counts: IndexMap<Query<'a>, u32>,
+}
+
+impl<'a> Tally<'a> {
+    /// Of no query.
+    pub fn new(alloc: Global, profile: &'a Profile) -> Tally<'a> {
+        Tally {
+            profile,
+            counts: IndexMap::new(alloc),
+        }
+    }
+
+    /// Counts a query.
+    pub fn count(&mut self, exchange: &Exchange) -> Result<(), AllocError> {
+        let query = Query {
+            called: Called::of(self.profile, exchange),
+            nak: NakBits::of(&exchange.reply).map(|nak| nak.bits()),
+        };
+        let count = self.counts.entry(query)?.or_insert(0);
+        *count = count.saturating_add(1);
+        Ok(())
+    }
+
+    /// Puts the line that counts them, where there are some, and forgets them.
+    pub fn put(&mut self, line: &mut Vec<u8>) -> Result<(), AllocError> {
+        if self.counts.is_empty() {
+            return Ok(());
+        }
+        for (place, (query, count)) in self.counts.iter().enumerate() {
+            put_text(line, if place == 0 { "... " } else { ", " })?;
+            put_query(line, *query, *count)?;
+        }
+        self.counts.clear();
+        put_text(line, "\n")
+    }
+}
+
+/// Puts how often a query came.
+fn put_query(line: &mut Vec<u8>, query: Query<'_>, count: u32) -> Result<(), AllocError> {
+    put_count(line, "", u64::from(count))?;
+    put_text(line, " ")?;
+    query.called.put(line)?;
+    if let Some(bits) = query.nak {
+        put_text(line, " -> ")?;
+        put_nak(line, NakBits::from_bits_retain(bits))?;
+    }
+    Ok(())
+}

@@ -1,0 +1,209 @@
+//! Transport commands: what each asks for, and what came of one that was acknowledged.
+
+use crate::called::Called;
+use crate::decimal::put_seconds;
+use crate::seen::SeenExchange;
+use crate::track::{Place, Track, put_track};
+use block9::Command;
+use deck9::{Deck, Effect, Known, Mode, ModeSet, Profile};
+use report9::{put_count, put_modes, put_text, put_word};
+use std::alloc::AllocError;
+
+/// Which way the tape runs by a command.
+#[derive(Clone, Copy, PartialEq, Eq)]
+pub(crate) enum Way {
+    /// Forward.
+    Forward,
+    /// Back.
+    Back,
+    /// The command leaves it open.
+    Open,
+}
+
+/// A transport command.
+#[derive(Clone, Copy)]
+pub(crate) struct Transport<'a> {
+    /// What it is called.
+    pub(crate) called: Called<'a>,
+    /// The mode that it asks for, where it has one of its own.
+    pub(crate) mode: Option<Mode>,
+    /// The way that it asks for.
+    pub(crate) way: Way,
+}
+
+/// How many statuses showed these modes.
+#[derive(Clone, Copy)]
+pub(crate) struct Shown {
+    modes: ModeSet,
+    statuses: u32,
+}
+
+/// A transport command that was acknowledged, and what came since.
+#[derive(Clone, Copy)]
+pub(crate) struct Followed<'a> {
+    /// The command.
+    pub(crate) transport: Transport<'a>,
+    /// Its acknowledgement.
+    pub(crate) place: Place,
+    /// Whether the deck was known to be in LOCAL, and so may have ignored it.
+    is_local: bool,
+    statuses: u32,
+    /// How long after the acknowledgement the last status came, in microseconds.
+    statuses_us: u64,
+    /// How long after it the first status came that showed the command's mode.
+    pub(crate) response_us: Option<u64>,
+    /// Which status that was, counted from 1.
+    response_status: u32,
+    /// The times that were answered.
+    pub(crate) times: Option<Track>,
+}
+
+impl Way {
+    fn of(command: &Command) -> Way {
+        match command {
+            Command::Play
+            | Command::SyncPlay
+            | Command::Record
+            | Command::FastForward
+            | Command::JogForward
+            | Command::VarForward
+            | Command::ShuttleForward => Way::Forward,
+            Command::Rewind | Command::JogReverse | Command::VarReverse | Command::ShuttleReverse =>
+                Way::Back,
+            _ => Way::Open,
+        }
+    }
+
+    /// Whether a time that moved by so many frames ran against it.
+    pub(crate) fn is_against(self, moved: i64) -> bool {
+        match self {
+            Way::Forward => moved < 0,
+            Way::Back => moved > 0,
+            Way::Open => false,
+        }
+    }
+}
+
+impl<'a> Transport<'a> {
+    /// What the command of an exchange asks for, where it is one of the transport. One that is not listed is one by its group,
+    /// unless a sheet has a name for it.
+    pub(crate) fn of(profile: &'a Profile, seen: &SeenExchange<'_>) -> Option<Transport<'a>> {
+        let command = &seen.exchange.command;
+        let called = Called::of(profile, seen.exchange);
+        let mode = match (Deck::effect(None, command), called) {
+            (Effect::Go(mode), _) => Some(mode),
+            (Effect::KeepOrStop, _) => None,
+            (_, Called::Head(head)) if head / 0x10_00 == 2 => None,
+            _ => return None,
+        };
+        let way = Way::of(command);
+        Some(Transport { called, mode, way })
+    }
+}
+
+impl<'a> Followed<'a> {
+    /// A command that is acknowledged here.
+    pub(crate) fn new(transport: Transport<'a>, seen: &SeenExchange<'_>) -> Followed<'a> {
+        Followed {
+            transport,
+            place: Place::of(seen),
+            is_local: matches!(seen.after.local, Known::Is(true)),
+            statuses: 0,
+            statuses_us: 0,
+            response_us: None,
+            response_status: 0,
+            times: None,
+        }
+    }
+
+    /// Takes a status that shows one of these modes: what it is taken for, the command's mode where that is one of them.
+    pub(crate) fn take_status(&mut self, modes: ModeSet, place: Place) -> ModeSet {
+        self.statuses = self.statuses.saturating_add(1);
+        self.statuses_us = place.since(self.place);
+        match self.transport.mode {
+            Some(mode) if modes.has(mode) => {
+                if self.response_us.is_none() {
+                    self.response_us = Some(self.statuses_us);
+                    self.response_status = self.statuses;
+                }
+                ModeSet::just(mode)
+            }
+            _ => modes,
+        }
+    }
+
+    /// Whether there were statuses, and none showed its mode.
+    pub(crate) fn is_never_shown(&self) -> bool {
+        self.transport.mode.is_some() && self.response_us.is_none() && self.statuses > 0
+    }
+
+    /// Puts its line: what came of it, how often which modes were shown, and the times.
+    pub(crate) fn put(&self, line: &mut Vec<u8>, shown: &[Shown]) -> Result<(), AllocError> {
+        self.place.put(line)?;
+        self.transport.called.put(line)?;
+        put_text(line, if self.is_local { " in local: " } else { ": " })?;
+        match (self.transport.mode, self.response_us) {
+            (Some(mode), Some(us)) => self.put_response(line, mode, us)?,
+            (mode, _) => self.put_statuses(line, mode)?,
+        }
+        put_shown(line, shown)?;
+        put_track(line, &self.times)?;
+        put_text(line, "\n")
+    }
+
+    /// Puts when the mode was shown first.
+    fn put_response(&self, line: &mut Vec<u8>, mode: Mode, us: u64) -> Result<(), AllocError> {
+        put_word(line, mode.name(), " shown after ")?;
+        put_seconds(line, us)?;
+        put_count(line, " s, by status ", u64::from(self.response_status))?;
+        put_count(line, " of ", u64::from(self.statuses))
+    }
+
+    /// Puts how many statuses came, none of which showed the mode.
+    fn put_statuses(&self, line: &mut Vec<u8>, mode: Option<Mode>) -> Result<(), AllocError> {
+        match mode {
+            Some(mode) if self.statuses > 0 => put_word(line, mode.name(), " not shown, ")?,
+            Some(_) => {}
+            None => put_text(line, "no mode of its own, ")?,
+        }
+        if self.statuses == 0 {
+            return put_text(line, "no status");
+        }
+        let is_one = self.statuses == 1;
+        put_count(line, "", u64::from(self.statuses))?;
+        put_text(
+            line,
+            if is_one {
+                " status over "
+            } else {
+                " statuses over "
+            },
+        )?;
+        put_seconds(line, self.statuses_us)?;
+        put_text(line, " s")
+    }
+}
+
+/// Counts a status that shows these modes. They stay in the order in which they first came.
+pub(crate) fn count_shown(shown: &mut Vec<Shown>, modes: ModeSet) -> Result<(), AllocError> {
+    for count in shown.iter_mut() {
+        if count.modes == modes {
+            count.statuses = count.statuses.saturating_add(1);
+            return Ok(());
+        }
+    }
+    shown.push(Shown { modes, statuses: 1 })?;
+    Ok(())
+}
+
+/// Puts how often which modes were shown.
+fn put_shown(line: &mut Vec<u8>, shown: &[Shown]) -> Result<(), AllocError> {
+    let mut before = " (";
+    for count in shown {
+        put_text(line, before)?;
+        put_modes(line, count.modes)?;
+        put_count(line, " ", u64::from(count.statuses))?;
+        before = ", ";
+    }
+    put_text(line, if shown.is_empty() { "" } else { ")" })
+}
