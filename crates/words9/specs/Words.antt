@@ -1,5 +1,6 @@
 -- What the words of the command line ask for, by `clap`'s own definition of a command and its words.
-use Rattle.std.specs.Prelude.{◌≡◌, List, [], ◌∷◌, Option, Some, None, codes, find, map, option_map, Bool, true, false, if◌then◌else◌}
+use Rattle.std.specs.Prelude.{◌≡◌, List, [], ◌++◌, ◌∷◌, Option, Some, None, codes, find, map, option_map, Bool, true, false, ◌&&◌, ◌||◌, if◌then◌else◌}
+use Rattle.std.specs.List.{fold}
 use Rattle.std.specs.Borrow.{Bor}
 use Rattle.std.specs.Option.{option_map_or}
 use Rattle.std.specs.Str.{bytes_eq}
@@ -15,12 +16,18 @@ use Rattle.report9.specs.declared.detail.Detail.{Detail}
 use Rattle.report9.specs.declared.detail.Detail.TheVariants.{Bytes, Names}
 use Rattle.report9.specs.declared.verdict.Beginning.{Beginning}
 use Rattle.report9.specs.declared.verdict.Beginning.TheVariants.{FirstCommand, FirstRecord}
+use Rattle.report9.specs.declared.stretch.Stretch.{Stretch}
+use Rattle.report9.specs.declared.verdict.Extent.{Extent}
+use Rattle.report9.specs.declared.verdict.Extent.TheVariants.{FirstBreak, WholeCapture}
 use Rattle.report9.specs.declared.verdict.View.{View}
 use Rattle.report9.specs.declared.verdict.View.TheVariants as view
 use Rattle.words9.specs.declared.task.Asked.{Asked}
 use Rattle.words9.specs.declared.task.Report.{Report}
-use Rattle.words9.specs.declared.task.Report.TheVariants.{Parts, Run, ToBreak}
+use Rattle.words9.specs.declared.task.Made.TheVariants as made
+use Rattle.words9.specs.declared.task.Report.TheVariants.{Clock, JsonRun, Made, Parts, Run, ToBreak}
 use Rattle.words9.specs.declared.task.Task.{Task}
+use Rattle.report9.specs.declared.time_form.TimeForm.{TimeForm}
+use Rattle.report9.specs.declared.time_form.TimeForm.TheVariants as form
 use Rattle.words9.specs.declared.task.Verb.{Verb}
 use Rattle.words9.specs.declared.task.Verb.TheVariants as verb
 
@@ -65,7 +72,7 @@ rate_rule names = record (new_rule (codes "rate")) { long = Some (codes "rate");
 abbrev pub deck_rule : Rule
 deck_rule = record (new_rule (codes "deck")) { long = Some (codes "deck"); value_names = 1 }
 
--- an option that is there or not, which `run` has not
+-- an option that is there or not
 abbrev pub all_rule : Rule
 all_rule = record (new_rule (codes "all")) { long = Some (codes "all"); action = Some SetTrue }
 
@@ -73,9 +80,21 @@ all_rule = record (new_rule (codes "all")) { long = Some (codes "all"); action =
 abbrev pub line_buffered_rule : Rule
 line_buffered_rule = record (new_rule (codes "line-buffered")) { long = Some (codes "line-buffered"); action = Some SetTrue }
 
--- the same, which `explain` alone has
+-- the same
 abbrev pub bytes_rule : Rule
 bytes_rule = record (new_rule (codes "bytes")) { long = Some (codes "bytes"); action = Some SetTrue }
+
+-- an option with a time
+abbrev pub from_rule : Rule
+from_rule = record (new_rule (codes "from")) { long = Some (codes "from"); value_names = 1 }
+
+-- the same
+abbrev pub to_rule : Rule
+to_rule = record (new_rule (codes "to")) { long = Some (codes "to"); value_names = 1 }
+
+-- an option that is there or not, which `clock` alone has
+abbrev pub seconds_rule : Rule
+seconds_rule = record (new_rule (codes "seconds")) { long = Some (codes "seconds"); action = Some SetTrue }
 
 -- the word of a verb
 abbrev pub name_of : Verb → Text
@@ -83,19 +102,49 @@ name_of verb.Check = codes "check"
 name_of verb.Explain = codes "explain"
 name_of verb.Run = codes "run"
 name_of verb.Why = codes "why"
+name_of verb.Digest = codes "digest"
+name_of verb.Delays = codes "delays"
+name_of verb.Motion = codes "motion"
+name_of verb.Json = codes "json"
+name_of verb.JsonCheck = codes "json check"
+name_of verb.JsonExplain = codes "json explain"
+name_of verb.JsonRun = codes "json run"
+name_of verb.JsonWhy = codes "json why"
+name_of verb.Clock = codes "clock"
 
--- what each subcommand has: the word of its verb, and then the file and the options of the panel, of the capture's beginning, of
--- the rate and of the deck's sheet
+-- what each subcommand but `clock` has: the word of its verb, and then the file and the options of the panel, of the capture's
+-- beginning, of the rate and of the deck's sheet
 abbrev pub plain_app_for : RateNames → Verb → App
 plain_app_for names verb =
     with_rule (with_rule (with_rule (with_rule (with_rule (new_app (name_of verb)) file_rule) hands_rule) sync_rule) (rate_rule names)) deck_rule
 
+abbrev pub with_bytes_rule : App → App
+with_bytes_rule app = with_rule app bytes_rule
+
+abbrev pub with_all_rules : App → App
+with_all_rules app = with_rule (with_rule app all_rule) line_buffered_rule
+
+abbrev pub with_stretch_rules : App → App
+with_stretch_rules app = with_rule (with_rule app from_rule) to_rule
+
+abbrev pub clock_app : App
+clock_app = with_rule (with_rule (new_app (name_of verb.Clock)) file_rule) seconds_rule
+
 -- the subcommand of a verb
 abbrev pub app_for : RateNames → Verb → App
-app_for names verb.Check = with_rule (with_rule (plain_app_for names verb.Check) all_rule) line_buffered_rule
-app_for names verb.Explain = with_rule (with_rule (with_rule (plain_app_for names verb.Explain) bytes_rule) all_rule) line_buffered_rule
+app_for names verb.Check = with_all_rules (plain_app_for names verb.Check)
+app_for names verb.Explain = with_all_rules (with_bytes_rule (plain_app_for names verb.Explain))
 app_for names verb.Run = plain_app_for names verb.Run
-app_for names verb.Why = with_rule (with_rule (plain_app_for names verb.Why) all_rule) line_buffered_rule
+app_for names verb.Why = with_all_rules (plain_app_for names verb.Why)
+app_for names verb.Digest = with_stretch_rules (with_all_rules (with_bytes_rule (plain_app_for names verb.Digest)))
+app_for names verb.Delays = with_stretch_rules (with_all_rules (with_bytes_rule (plain_app_for names verb.Delays)))
+app_for names verb.Motion = with_stretch_rules (with_all_rules (with_bytes_rule (plain_app_for names verb.Motion)))
+app_for names verb.Json = with_stretch_rules (with_all_rules (with_bytes_rule (plain_app_for names verb.Json)))
+app_for names verb.JsonCheck = with_stretch_rules (with_all_rules (plain_app_for names verb.JsonCheck))
+app_for names verb.JsonExplain = with_stretch_rules (with_all_rules (with_bytes_rule (plain_app_for names verb.JsonExplain)))
+app_for names verb.JsonRun = plain_app_for names verb.JsonRun
+app_for names verb.JsonWhy = with_stretch_rules (with_all_rules (plain_app_for names verb.JsonWhy))
+app_for names verb.Clock = clock_app
 
 -- the program, which wants a subcommand, and has a version; its own name is not among the words
 abbrev pub top : App
@@ -104,11 +153,24 @@ top = record (new_app (codes "ninecheck")) {
       { no_binary_name = true; subcommand_required = true; has_version = true };
 }
 
+-- the program with the subcommand of a verb more
+abbrev pub with_verb : RateNames → App → Verb → App
+with_verb names app verb = with_subcommand app (app_for names verb).top
+
 -- the program with its subcommands
 abbrev pub program : RateNames → App
 program names =
-    with_subcommand (with_subcommand (with_subcommand (with_subcommand top (app_for names verb.Check).top) (app_for names verb.Explain).top)
-    (app_for names verb.Run).top) (app_for names verb.Why).top
+    fold (with_verb names) top
+    (verb.Check ∷ verb.Explain ∷ verb.Run ∷ verb.Why ∷ verb.Digest ∷ verb.Delays ∷ verb.Motion ∷ verb.Json ∷ verb.JsonCheck ∷ verb.JsonExplain ∷ verb.JsonRun ∷ verb.JsonWhy ∷ verb.Clock ∷ [])
+
+-- a report that `json` can be asked for
+abbrev pub is_asked : Text → Bool
+is_asked word = bytes_eq word (codes "check") || bytes_eq word (codes "explain") || bytes_eq word (codes "run") || bytes_eq word (codes "why")
+
+-- the words as the program takes them: those whose first two are one subcommand have them as one word, with a blank between
+abbrev pub joined : List Text → List Text
+joined (first ∷ second ∷ rest) = if bytes_eq first (codes "json") && is_asked second then (codes "json " ++ second) ∷ rest else first ∷ second ∷ rest
+joined words = words
 
 -- the program takes the words: they name this verb, and these rows come with it
 abbrev pub TakesWords : RateNames → List Text → Verb → List Row → Type 0
@@ -129,12 +191,31 @@ abbrev pub detail_of : Bool → Detail
 detail_of true = Bytes
 detail_of false = Names
 
--- the report of a verb, where the words say `--all` or not, and `--bytes` or not
-abbrev pub report_of : Verb → Bool → Bool → Report
-report_of verb.Check all bytes = shown all view.Verdict
-report_of verb.Explain all bytes = shown all (view.Explain (detail_of bytes))
-report_of verb.Run all bytes = Run
-report_of verb.Why all bytes = shown all view.Why
+-- how far the judging goes, where the words say `--all` or not
+abbrev pub extent_of : Bool → Extent
+extent_of true = WholeCapture
+extent_of false = FirstBreak
+
+-- how times are written, where the words say `--seconds` or not
+abbrev pub form_of : Bool → TimeForm
+form_of true = form.Seconds
+form_of false = form.Clock
+
+-- what a verb makes, where the words say `--all`, `--bytes` and `--seconds` or not
+abbrev pub report_of : Verb → Bool → Bool → Bool → Report
+report_of verb.Check all bytes seconds = shown all view.Verdict
+report_of verb.Explain all bytes seconds = shown all (view.Explain (detail_of bytes))
+report_of verb.Run all bytes seconds = Run
+report_of verb.Why all bytes seconds = shown all view.Why
+report_of verb.Digest all bytes seconds = Made made.Digest (extent_of all)
+report_of verb.Delays all bytes seconds = Made made.Delays (extent_of all)
+report_of verb.Motion all bytes seconds = Made made.Motion (extent_of all)
+report_of verb.Json all bytes seconds = Made (made.Json (view.Explain (detail_of bytes))) (extent_of all)
+report_of verb.JsonCheck all bytes seconds = Made (made.Json view.Verdict) (extent_of all)
+report_of verb.JsonExplain all bytes seconds = Made (made.Json (view.Explain (detail_of bytes))) (extent_of all)
+report_of verb.JsonRun all bytes seconds = JsonRun
+report_of verb.JsonWhy all bytes seconds = Made (made.Json view.Why) (extent_of all)
+report_of verb.Clock all bytes seconds = Clock (form_of seconds)
 
 -- with which record the judging begins, where the words say `--sync` or not
 abbrev pub beginning_of : Bool → Beginning
@@ -145,17 +226,26 @@ beginning_of false = FirstRecord
 abbrev pub has : Text → List Row → Bool
 has option rows = is_on (first_of option rows)
 
--- what a verb asks for with these rows
-abbrev pub asked_of : Verb → List Row → Asked
-asked_of verb rows =
-    record { report = report_of verb (has (codes "all") rows) (has (codes "bytes") rows); beginning = beginning_of (has (codes "sync") rows); line_buffered = has (codes "line-buffered") rows }
+-- what a verb asks for with these rows, where this stretch is shown
+abbrev pub asked_of : Verb → List Row → Stretch → Asked
+asked_of verb rows stretch = record {
+  report = report_of verb (has (codes "all") rows) (has (codes "bytes") rows) (has (codes "seconds") rows);
+  beginning = beginning_of (has (codes "sync") rows);
+  stretch = stretch;
+  line_buffered = has (codes "line-buffered") rows;
+}
+
+-- where no option names a time, all of the capture is shown
+abbrev pub IsStretchOf : List Row → Stretch → Type 0
+IsStretchOf rows stretch = (first_of (codes "from") rows ≡ None → stretch.from_us ≡ 0) × (first_of (codes "to") rows ≡ None → stretch.to_us ≡ None)
 
 -- the program takes the words, and they give this task
 pub record GivesTask (names : RateNames) (words : List Text) (task : Task) : Type 0 where
   pub verb : Verb
   pub rows : List Row
   pub takes : TakesWords names words verb rows
-  pub asked : task.asked ≡ asked_of verb rows
+  pub asked : task.asked ≡ asked_of verb rows task.asked.stretch
+  pub stretch : IsStretchOf rows task.asked.stretch
   pub file : option_map string_bytes task.file ≡ first_of (codes "FILE") rows
   pub rate : task.rate ≡ rate_of (first_of (codes "rate") rows)
   pub hands : task.hands ≡ (if has (codes "hands") rows then hands.Allowed else hands.None)

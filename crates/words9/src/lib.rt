@@ -8,8 +8,9 @@
 #![tactic(auto)]
 
 mod task;
+mod times;
 mod usage;
 mod words;
 
-pub use task::{Asked, Report, Task, VERSION_LINE, Verb, WordsFault};
+pub use task::{Asked, Made, NoTime, Report, Task, VERSION_LINE, Verb, WordsFault};
 pub use words::read_words;

@@ -2,13 +2,14 @@
 
 use clap::Error;
 use deck9::Hands;
-use report9::{Beginning, View};
+use report9::{Beginning, Extent, Stretch, TimeForm, View};
+use std::fmt;
 use tc25::Rate;
 
 /// The program's name and version, with a line feed. The package and the man page take the number from this line.
 pub const VERSION_LINE: &str = "ninecheck 1.1.0\n";
 
-/// A subcommand that judges a capture.
+/// A subcommand.
 #[derive(Clone, Copy, Debug, PartialEq, Eq)]
 pub enum Verb {
     /// Answers the verdict alone: `check`.
@@ -19,9 +20,40 @@ pub enum Verb {
     Run,
     /// Says why the verdict is a no, before the verdict itself: `why`.
     Why,
+    /// Tells each command and each change of what is known: `digest`.
+    Digest,
+    /// Counts how long the deck took to reply: `delays`.
+    Delays,
+    /// Tells what the deck did after each transport command: `motion`.
+    Motion,
+    /// A JSON object for each line of an explanation: `json`.
+    Json,
+    /// For each line of a check: `json check`.
+    JsonCheck,
+    /// As `json`: `json explain`.
+    JsonExplain,
+    /// For each line of a run: `json run`.
+    JsonRun,
+    /// For each line of a why: `json why`.
+    JsonWhy,
+    /// Writes the times of a text as a clock: `clock`.
+    Clock,
 }
 
-/// Which report on a capture is asked for, and how far the judging goes.
+/// What is made of the events of a capture, beside the program's own reports.
+#[derive(Clone, Copy, Debug, PartialEq, Eq)]
+pub enum Made {
+    /// The commands and what changed, with times; the queries between them are counted.
+    Digest,
+    /// How long the deck took to reply, for each command and overall.
+    Delays,
+    /// What the deck did after each transport command that it acknowledged.
+    Motion,
+    /// A JSON object for each line of the report with this view.
+    Json(View),
+}
+
+/// What is made, and how far the judging goes.
 #[derive(Clone, Copy, Debug, PartialEq, Eq)]
 pub enum Report {
     /// A run of the deck, and the verdict. The judging ends at the first break.
@@ -30,16 +62,24 @@ pub enum Report {
     ToBreak(View),
     /// What this view shows of each part, and the totals. The judging goes on after each break.
     Parts(View),
+    /// This, of a judging that goes so far.
+    Made(Made, Extent),
+    /// A JSON object for each line of a run. The judging ends at the first break.
+    JsonRun,
+    /// A text, with its times in this form. Nothing is judged.
+    Clock(TimeForm),
 }
 
 /// What is asked of a capture, whatever its deck is taken for.
 #[derive(Clone, Copy, Debug, PartialEq, Eq)]
 pub struct Asked {
-    /// The report, and how far the judging goes.
+    /// What is made of it, and how far the judging goes.
     pub report: Report,
     /// With which record the judging begins.
     pub beginning: Beginning,
-    /// Whether each line of the report is handed on as soon as it is complete.
+    /// What is shown of it.
+    pub stretch: Stretch,
+    /// Whether each line is handed on as soon as it is complete.
     pub line_buffered: bool,
 }
 
@@ -66,6 +106,27 @@ pub enum WordsFault {
     Usage(Option<Error>),
     /// The words ask for the program's version: [`VERSION_LINE`].
     Version,
+    /// The value of `--from` or of `--to` is no time.
+    NoTime(NoTime),
     /// A growth of memory was refused.
     NoMemory,
+}
+
+/// An option whose value is no time. Its `Display` is the text for the user.
+#[derive(Debug, Drop, PartialEq, Eq)]
+pub struct NoTime {
+    /// The option's name, without the hyphens.
+    pub option: &'static str,
+    /// What was given.
+    pub value: String,
+}
+
+impl fmt::Display for NoTime {
+    fn fmt<W: fmt::Write>(&self, f: &mut fmt::Formatter<W>) -> fmt::Result {
+        let (option, value) = (self.option, self.value.as_str());
+        write!(
+            f,
+            "error: invalid value '{value}' for '--{option} <TIME>': a time is seconds, such as 12.5, or a clock, such as 14:30:47.25\n\nFor more information, try '--help'."
+        )
+    }
 }

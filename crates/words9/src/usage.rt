@@ -3,7 +3,7 @@ ghost use Rattle.std.specs.Prelude.{◌≡◌, IfOk, false, map};
 ghost use Rattle.std.specs.String.{string_bytes};
 ghost use Rattle.clap.specs.Words.{FailsBy, app_of, fault_of, rule_of, subcommand_of, subcommand_rows_of, with_subcommand};
 ghost use Rattle.clap.specs.declared.builder.command.Command.TheViews.{out-Command as fields_of};
-ghost use Rattle.words9.specs.Words.{AreRateNames, all_rule, app_for, bytes_rule, deck_rule, hands_rule, line_buffered_rule, name_of, plain_app_for, program, rate_rule, sync_rule, top};
+ghost use Rattle.words9.specs.Words.{AreRateNames, all_rule, app_for, bytes_rule, clock_app, deck_rule, from_rule, hands_rule, line_buffered_rule, name_of, plain_app_for, program, rate_rule, seconds_rule, sync_rule, to_rule, top, with_all_rules, with_bytes_rule, with_stretch_rules};
 
 use crate::task::{VERSION_LINE, Verb};
 use clap::{Arg, ArgAction, ArgMatches, Command, Error};
@@ -41,7 +41,16 @@ fn whole<'a>(alloc: Global, rates: &'a [&'a str]) -> Result<Command<'a>, AllocEr
     let command = with_verb(alloc, above(alloc)?, Verb::Check, rates)?;
     let command = with_verb(alloc, command, Verb::Explain, rates)?;
     let command = with_verb(alloc, command, Verb::Run, rates)?;
-    with_verb(alloc, command, Verb::Why, rates)
+    let command = with_verb(alloc, command, Verb::Why, rates)?;
+    let command = with_verb(alloc, command, Verb::Digest, rates)?;
+    let command = with_verb(alloc, command, Verb::Delays, rates)?;
+    let command = with_verb(alloc, command, Verb::Motion, rates)?;
+    let command = with_verb(alloc, command, Verb::Json, rates)?;
+    let command = with_verb(alloc, command, Verb::JsonCheck, rates)?;
+    let command = with_verb(alloc, command, Verb::JsonExplain, rates)?;
+    let command = with_verb(alloc, command, Verb::JsonRun, rates)?;
+    let command = with_verb(alloc, command, Verb::JsonWhy, rates)?;
+    with_verb(alloc, command, Verb::Clock, rates)
 }
 
 /// A command with the subcommand of a verb.
@@ -78,15 +87,55 @@ fn subcommand<'a>(
     ensures app { IfOk result (λ c. app_of c ≡ app_for rates.entry verb) }
     ensures local { IfOk result (λ c. (fields_of c).has_globals ≡ false) }
 {
+    if let Verb::Clock = verb {
+        return clock(alloc);
+    }
     let command = plain_subcommand(alloc, verb, rates)?;
     match verb {
-        Verb::Run => Ok(command),
-        Verb::Check | Verb::Why => command.arg(all(alloc))?.arg(line_buffered(alloc)),
-        Verb::Explain => {
-            let command = command.arg(bytes(alloc))?;
-            command.arg(all(alloc))?.arg(line_buffered(alloc))
+        Verb::Run | Verb::JsonRun | Verb::Clock => Ok(command),
+        Verb::Check | Verb::Why => with_all(alloc, command),
+        Verb::JsonCheck | Verb::JsonWhy => with_stretch(alloc, with_all(alloc, command)?),
+        Verb::Explain => with_all(alloc, with_bytes(alloc, command)?),
+        Verb::Digest | Verb::Delays | Verb::Motion | Verb::Json | Verb::JsonExplain => {
+            let command = with_all(alloc, with_bytes(alloc, command)?)?;
+            with_stretch(alloc, command)
         }
     }
+}
+
+/// The same command with the option that tells exchanges with their bytes.
+fn with_bytes<'a>(alloc: Global, command: Command<'a>) -> Result<Command<'a>, AllocError>
+    ensures app { IfOk result (λ c. app_of c ≡ with_bytes_rule (app_of command.entry)) }
+    ensures local { (fields_of command.entry).has_globals ≡ false → IfOk result (λ c. (fields_of c).has_globals ≡ false) }
+{
+    command.arg(bytes(alloc))
+}
+
+/// The same command with the options that go on after a break, and that hand each line on at once.
+fn with_all<'a>(alloc: Global, command: Command<'a>) -> Result<Command<'a>, AllocError>
+    ensures app { IfOk result (λ c. app_of c ≡ with_all_rules (app_of command.entry)) }
+    ensures local { (fields_of command.entry).has_globals ≡ false → IfOk result (λ c. (fields_of c).has_globals ≡ false) }
+{
+    command.arg(all(alloc))?.arg(line_buffered(alloc))
+}
+
+/// The same command with the options of the stretch that is shown.
+fn with_stretch<'a>(alloc: Global, command: Command<'a>) -> Result<Command<'a>, AllocError>
+    ensures app { IfOk result (λ c. app_of c ≡ with_stretch_rules (app_of command.entry)) }
+    ensures local { (fields_of command.entry).has_globals ≡ false → IfOk result (λ c. (fields_of c).has_globals ≡ false) }
+{
+    command.arg(from(alloc))?.arg(to(alloc))
+}
+
+/// The subcommand that writes the times of a text as a clock.
+fn clock<'a>(alloc: Global) -> Result<Command<'a>, AllocError>
+    ensures app { IfOk result (λ c. app_of c ≡ clock_app) }
+    ensures local { IfOk result (λ c. (fields_of c).has_globals ≡ false) }
+{
+    let file = Arg::new(alloc, "FILE").help("The text; standard input if left out");
+    let command = Command::new(alloc, name_of(Verb::Clock)).about(about(Verb::Clock));
+    let command = command.arg(file)?.arg(seconds(alloc))?;
+    Ok(command)
 }
 
 /// A subcommand with what each has: its file, and the options of the panel, of the capture's beginning, of the rate and of the
@@ -195,7 +244,39 @@ fn line_buffered<'a>(alloc: Global) -> Arg<'a>
         .help("Write each line as soon as it is complete, to watch a capture while it grows")
 }
 
-/// A verb's word.
+/// The option of the first time that is shown.
+fn from<'a>(alloc: Global) -> Arg<'a>
+    ensures rule { rule_of result ≡ from_rule }
+    ensures local { result.global ≡ false }
+{
+    Arg::new(alloc, "from").long("from").value_name("TIME").help(
+        "Show what comes at this time or later, in seconds or as a clock (hh:mm:ss.5); all is judged",
+    )
+}
+
+/// The option of the time at which what is shown ends.
+fn to<'a>(alloc: Global) -> Arg<'a>
+    ensures rule { rule_of result ≡ to_rule }
+    ensures local { result.global ≡ false }
+{
+    Arg::new(alloc, "to")
+        .long("to")
+        .value_name("TIME")
+        .help("Show what comes before this time")
+}
+
+/// The option that writes times in seconds.
+fn seconds<'a>(alloc: Global) -> Arg<'a>
+    ensures rule { rule_of result ≡ seconds_rule }
+    ensures local { result.global ≡ false }
+{
+    Arg::new(alloc, "seconds")
+        .long("seconds")
+        .action(ArgAction::SetTrue)
+        .help("Write the times in seconds")
+}
+
+/// A verb's word. Of `json` with another word the two are one, with a blank between.
 fn name_of<'a>(verb: Verb) -> &'a str
     ensures { result.now ≡ name_of verb }
 {
@@ -204,6 +285,15 @@ fn name_of<'a>(verb: Verb) -> &'a str
         Verb::Explain => "explain",
         Verb::Run => "run",
         Verb::Why => "why",
+        Verb::Digest => "digest",
+        Verb::Delays => "delays",
+        Verb::Motion => "motion",
+        Verb::Json => "json",
+        Verb::JsonCheck => "json check",
+        Verb::JsonExplain => "json explain",
+        Verb::JsonRun => "json run",
+        Verb::JsonWhy => "json why",
+        Verb::Clock => "clock",
     }
 }
 
@@ -218,5 +308,17 @@ fn about<'a>(verb: Verb) -> &'a str {
             "Write one run of the deck that explains the replies: the deck's state after each exchange",
         Verb::Why =>
             "Say why the answer is no: what was open at the break, or which replies contradict one another",
+        Verb::Digest =>
+            "Tell what happened: each command, and each query that changed what is known; others are counted",
+        Verb::Delays => "Count how long the deck took to reply, for each command and overall",
+        Verb::Motion =>
+            "Tell what the deck did after each transport command that it acknowledged; nothing is judged",
+        Verb::Json => "Write a JSON object for each line of explain",
+        Verb::JsonCheck => "Write a JSON object for each line of check",
+        Verb::JsonExplain => "The same as json",
+        Verb::JsonRun => "Write a JSON object for each line of run",
+        Verb::JsonWhy => "Write a JSON object for each line of why",
+        Verb::Clock =>
+            "Write the times of a text as a clock: of a report, of a digest or of a motion",
     }
 }

@@ -3,39 +3,55 @@ ghost use Rattle.std.specs.Prelude.{◌≡◌, ◌≢◌, IfOk, MatchOption, Opt
 ghost use Rattle.std.specs.String.{string_bytes};
 ghost use Rattle.clap.specs.Words.{first_of, found_of, kind_of, rows_of};
 ghost use Rattle.clap.specs.declared.error.Error.{Error as ClapError};
-ghost use Rattle.words9.specs.Words.{AsksVersion, IsNoTask, IsTaskOf, MayAskVersion, asked_of, beginning_of, is_on, name_of, rate_named, rate_of, report_of};
+ghost use Rattle.words9.specs.Words.{AsksVersion, IsNoTask, IsStretchOf, IsTaskOf, MayAskVersion, asked_of, beginning_of, extent_of, is_asked, is_on, joined, name_of, rate_named, rate_of, report_of, shown};
 
-use crate::task::{Asked, Report, Task, Verb, WordsFault};
+use crate::task::{Asked, Made, NoTime, Report, Task, Verb, WordsFault};
+use crate::times::read_time;
 use crate::usage::{parsed, rate_names};
 use clap::error::ErrorKind;
 use clap::{ArgMatches, Error};
 use deck9::Hands;
-use report9::{Beginning, Detail, View};
+use report9::{Beginning, Detail, Extent, Stretch, TimeForm, View};
 use std::alloc::{AllocError, Global};
 use tc25::Rate;
 
 /// The task that these words give: those of the command line after the program's own name.
 ///
-/// The words are `check`, `explain`, `run` or `why`, and with it at most one file and, before or after the file, at most once
-/// `--hands`, at most once `--sync`, at most once `--rate` with `24`, `25`, `30` or `29.97df`, at most once `--deck` with a sheet's
-/// file, and, but for `run`, at most once `--all` and at most once `--line-buffered`, and for `explain` at most once `--bytes`; or
-/// they are `--version` or `-V`. What else they may look like is `clap`'s own definition.
+/// The words are a subcommand, with it at most one file and, before or after the file, each at most once the options that the
+/// subcommand has (`app_for` of the definitions); or they are `--version` or `-V`. `json` may have the word `check`, `explain`,
+/// `run` or `why` right behind it, and the two are one subcommand. What else the words may look like is `clap`'s own definition.
 ///
 /// * `Ok(task)` only where the definition takes the words. The task asks for the report of the subcommand and its options, and has
 ///   the file and the options that the definition gives for the words, and 25 frames a second where they name no rate.
 /// * `Err(Usage)` only where it does not take them, and they are not those that ask for the version. Words that ask for
 ///   help are not taken.
 /// * `Err(Version)` only where they ask for the version, and that is, or may be, the first thing that stops the definition.
+/// * `Err(NoTime)` only where the definition takes the words, and a value of `--from` or `--to` is no time.
 /// * `Err(NoMemory)` where a growth of memory is refused.
 pub fn read_words(alloc: Global, words: Vec<String>) -> Result<Task, WordsFault>
-    ensures task { IfOk result (IsTaskOf (map (λ s. string_bytes s) words.items)) }
+    ensures task { IfOk result (IsTaskOf (joined (map (λ s. string_bytes s) words.items))) }
     ensures usage { (e : Option ClapError) → result ≡ Err (WordsFault.Usage e)
-        → IsNoTask (map (λ s. string_bytes s) words.items)
-        × ¬ (AsksVersion (map (λ s. string_bytes s) words.items)) }
+        → IsNoTask (joined (map (λ s. string_bytes s) words.items))
+        × ¬ (AsksVersion (joined (map (λ s. string_bytes s) words.items))) }
     ensures version { result ≡ Err WordsFault.Version
-        → MayAskVersion (map (λ s. string_bytes s) words.items) }
+        → MayAskVersion (joined (map (λ s. string_bytes s) words.items)) }
 {
-    let matches = match parsed(alloc, words.as_slice(), rate_names()) {
+    match joined(alloc, words) {
+        Ok(words) => read_joined(alloc, words.as_slice()),
+        Err(_) => Err(WordsFault::NoMemory),
+    }
+}
+
+/// The task that these words give, of which each names one thing.
+fn read_joined(alloc: Global, words: &[String]) -> Result<Task, WordsFault>
+    ensures task { IfOk result (IsTaskOf (map (λ s. string_bytes s) words.now)) }
+    ensures usage { (e : Option ClapError) → result ≡ Err (WordsFault.Usage e)
+        → IsNoTask (map (λ s. string_bytes s) words.now)
+        × ¬ (AsksVersion (map (λ s. string_bytes s) words.now)) }
+    ensures version { result ≡ Err WordsFault.Version
+        → MayAskVersion (map (λ s. string_bytes s) words.now) }
+{
+    let matches = match parsed(alloc, words, rate_names()) {
         Ok(matches) => matches,
         Err(e) => return Err(fault_of(e)),
     };
@@ -45,6 +61,7 @@ pub fn read_words(alloc: Global, words: Vec<String>) -> Result<Task, WordsFault>
     let Some(verb) = verb_of(name) else {
         return Err(WordsFault::Usage(None));
     };
+    let stretch = stretch_of(alloc, found)?;
     let Ok(file) = value_of(alloc, found, "FILE") else {
         return Err(WordsFault::NoMemory);
     };
@@ -57,7 +74,7 @@ pub fn read_words(alloc: Global, words: Vec<String>) -> Result<Task, WordsFault>
         Hands::None
     };
     let rate = rate_of(found);
-    let asked = asked_of(verb, found);
+    let asked = asked_of(verb, found, stretch);
     Ok(Task {
         asked,
         file,
@@ -67,32 +84,121 @@ pub fn read_words(alloc: Global, words: Vec<String>) -> Result<Task, WordsFault>
     })
 }
 
-/// What the subcommand of this verb asks of the capture, by its options.
-fn asked_of(verb: Verb, found: &ArgMatches<'_>) -> Asked
-    ensures { result ≡ asked_of verb (rows_of (found_of found.now)) }
+/// The words, where the first two may be one subcommand: `json` and the report that it is made of.
+fn joined(alloc: Global, words: Vec<String>) -> Result<Vec<String>, AllocError>
+    ensures { IfOk result (λ one. map (λ s. string_bytes s) one.items ≡ joined (map (λ s. string_bytes s) words.items)) }
+{
+    let mut words = words;
+    if words.len() < 2 || words[0].as_str() != "json" || !is_asked(words[1].as_str()) {
+        return Ok(words);
+    }
+    let mut both = String::from_str(alloc, "json ")?;
+    both.push_str(words[1].as_str())?;
+    words.remove(0);
+    words[0] = both;
+    Ok(words)
+}
+
+/// Whether `json` can be asked for this report.
+fn is_asked(word: &str) -> bool
+    ensures { result ≡ is_asked word.now }
+{
+    word == "check" || word == "explain" || word == "run" || word == "why"
+}
+
+/// The stretch that the options name: all of the capture where they name none.
+fn stretch_of(alloc: Global, found: &ArgMatches<'_>) -> Result<Stretch, WordsFault>
+    ensures stretch { IfOk result (IsStretchOf (rows_of (found_of found.now))) }
+    ensures usage { (o : Option ClapError) → result ≢ Err (WordsFault.Usage o) }
+    ensures version { result ≢ Err WordsFault.Version }
+{
+    let from_us = time_of(alloc, found, "from")?;
+    Ok(Stretch {
+        from_us: from_us.unwrap_or(0),
+        to_us: time_of(alloc, found, "to")?,
+    })
+}
+
+/// The time that the subcommand was given with this option, in microseconds.
+fn time_of(
+    alloc: Global,
+    found: &ArgMatches<'_>,
+    option: &'static str,
+) -> Result<Option<u64>, WordsFault>
+    ensures none { IfOk result (λ time. first_of option.now (rows_of (found_of found.now)) ≡ None → time ≡ None) }
+    ensures usage { (o : Option ClapError) → result ≢ Err (WordsFault.Usage o) }
+    ensures version { result ≢ Err WordsFault.Version }
+{
+    let Ok(value) = value_of(alloc, found, option) else {
+        return Err(WordsFault::NoMemory);
+    };
+    let Some(value) = value else {
+        return Ok(None);
+    };
+    match read_time(value.as_str()) {
+        Some(time_us) => Ok(Some(time_us)),
+        None => Err(WordsFault::NoTime(NoTime { option, value })),
+    }
+}
+
+/// What the subcommand of this verb asks of the capture, by its options, where this stretch is shown.
+fn asked_of(verb: Verb, found: &ArgMatches<'_>, stretch: Stretch) -> Asked
+    ensures { result ≡ asked_of verb (rows_of (found_of found.now)) stretch }
 {
     Asked {
-        report: report_of(verb, is_given(found, "all"), is_given(found, "bytes")),
+        report: report_of(
+            verb,
+            is_given(found, "all"),
+            is_given(found, "bytes"),
+            is_given(found, "seconds"),
+        ),
         beginning: beginning_of(is_given(found, "sync")),
+        stretch,
         line_buffered: is_given(found, "line-buffered"),
     }
 }
 
-/// The report of a verb, where the words say `--all` or not, and `--bytes` or not.
-fn report_of(verb: Verb, all: bool, bytes: bool) -> Report
-    ensures { result ≡ report_of verb all bytes }
+/// What a verb makes, where the words say `--all`, `--bytes` and `--seconds` or not.
+fn report_of(verb: Verb, all: bool, bytes: bool, seconds: bool) -> Report
+    ensures { result ≡ report_of verb all bytes seconds }
 {
-    let view = match verb {
-        Verb::Check => View::Verdict,
-        Verb::Explain if bytes => View::Explain(Detail::Bytes),
-        Verb::Explain => View::Explain(Detail::Names),
-        Verb::Why => View::Why,
-        Verb::Run => return Report::Run,
-    };
+    let explained = View::Explain(if bytes { Detail::Bytes } else { Detail::Names });
+    match verb {
+        Verb::Check => shown(all, View::Verdict),
+        Verb::Explain => shown(all, explained),
+        Verb::Why => shown(all, View::Why),
+        Verb::Run => Report::Run,
+        Verb::Digest => Report::Made(Made::Digest, extent_of(all)),
+        Verb::Delays => Report::Made(Made::Delays, extent_of(all)),
+        Verb::Motion => Report::Made(Made::Motion, extent_of(all)),
+        Verb::Json | Verb::JsonExplain => Report::Made(Made::Json(explained), extent_of(all)),
+        Verb::JsonCheck => Report::Made(Made::Json(View::Verdict), extent_of(all)),
+        Verb::JsonWhy => Report::Made(Made::Json(View::Why), extent_of(all)),
+        Verb::JsonRun => Report::JsonRun,
+        Verb::Clock if seconds => Report::Clock(TimeForm::Seconds),
+        Verb::Clock => Report::Clock(TimeForm::Clock),
+    }
+}
+
+/// What the view shows: of each part where the words say `--all`, and else to the first break.
+fn shown(all: bool, view: View) -> Report
+    ensures { result ≡ shown all view }
+{
     if all {
         Report::Parts(view)
     } else {
         Report::ToBreak(view)
+    }
+}
+
+/// How far the judging goes, where the words say `--all` or not.
+fn extent_of(all: bool) -> Extent
+    ensures { result ≡ extent_of all }
+{
+    if all {
+        Extent::WholeCapture
+    } else {
+        Extent::FirstBreak
     }
 }
 
@@ -124,16 +230,21 @@ fn fault_of(e: Error) -> WordsFault
 fn verb_of(name: &str) -> Option<Verb>
     ensures { MatchOption result ((v : Verb) → name.now ≢ name_of v) (λ v. name.now ≡ name_of v) }
 {
-    if name == "check" {
-        Some(Verb::Check)
-    } else if name == "explain" {
-        Some(Verb::Explain)
-    } else if name == "run" {
-        Some(Verb::Run)
-    } else if name == "why" {
-        Some(Verb::Why)
-    } else {
-        None
+    match name {
+        "check" => Some(Verb::Check),
+        "explain" => Some(Verb::Explain),
+        "run" => Some(Verb::Run),
+        "why" => Some(Verb::Why),
+        "digest" => Some(Verb::Digest),
+        "delays" => Some(Verb::Delays),
+        "motion" => Some(Verb::Motion),
+        "json" => Some(Verb::Json),
+        "json check" => Some(Verb::JsonCheck),
+        "json explain" => Some(Verb::JsonExplain),
+        "json run" => Some(Verb::JsonRun),
+        "json why" => Some(Verb::JsonWhy),
+        "clock" => Some(Verb::Clock),
+        _ => None,
     }
 }
 
