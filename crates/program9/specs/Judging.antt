@@ -20,10 +20,12 @@ use Rattle.judge9.specs.Judging.{Answers}
 use Rattle.judge9.specs.Report.{Told, by_totals, by_verdict}
 use Rattle.judge9.specs.RunVerdict.{IsJudgedRun, verdict_of}
 use Rattle.words9.specs.declared.task.Report.{Report}
-use Rattle.words9.specs.declared.task.Report.TheVariants.{Parts, Run, ToBreak}
+use Rattle.words9.specs.declared.task.Report.TheVariants.{Clock, JsonRun, Made, Parts, Run, ToBreak}
+use Rattle.view9.specs.declared.clock.ClockFault.{ClockFault}
+use Rattle.view9.specs.declared.seen.Ending.{Ending}
 use Rattle.program9.specs.declared.ending.Outcome.{Outcome}
 use Rattle.program9.specs.declared.judging.Job.{Job}
-use Rattle.program9.specs.Outcome.{outcome_in_parts, outcome_of}
+use Rattle.program9.specs.Outcome.{outcome_in_parts, outcome_made, outcome_of, outcome_rewritten}
 use Rattle.program9.specs.Output.{IsFirstPart}
 
 -- of a judging that answered `judged`, after which the writer was to hold `all`: the result is that answer, and
@@ -71,8 +73,23 @@ pub record EndsAs {A : Type 0} (Kind : Result A JudgeError → Option (List ℕ)
   pub hands_on : HandsOn judged all result now
   pub is_end : end ≡ outcome result
 
+-- a view was made of a judging, and this is its end. What stands in a view is tested, and nothing is said of it here
+abbrev pub EndsMade : Outcome → Type 0
+EndsMade end = (result : Result Ending JudgeError) × (end ≡ outcome_made result)
+
+-- the same of a run as JSON
+abbrev pub EndsJsonRun : Outcome → Type 0
+EndsJsonRun end = (result : Result Verdict JudgeError) × (end ≡ outcome_of result)
+
+-- the same of the times of a text
+abbrev pub EndsRewritten : Outcome → Type 0
+EndsRewritten end = (result : Result Unit ClockFault) × (end ≡ outcome_rewritten result)
+
 -- a capture was judged and told by this report, and this is the end
 abbrev pub EndsJudged : Report → Job → Option (List ℕ) → Option (List ℕ) → Outcome → Option (List ℕ) → Type 0
 EndsJudged Run job capture old end now = EndsAs (IsJudgedWithRun job capture old) outcome_of end now
 EndsJudged (ToBreak view) job capture old end now = EndsAs (IsJudged view job capture old) outcome_of end now
 EndsJudged (Parts view) job capture old end now = EndsAs (IsJudgedInParts view job capture old) outcome_in_parts end now
+EndsJudged (Made made extent) job capture old end now = EndsMade end
+EndsJudged JsonRun job capture old end now = EndsJsonRun end
+EndsJudged (Clock form) job capture old end now = EndsRewritten end

@@ -10,6 +10,10 @@ use Rattle.report9.specs.declared.error.JudgeError.TheVariants as error
 use Rattle.report9.specs.declared.totals.Totals.{Totals}
 use Rattle.report9.specs.declared.verdict.Verdict.{Verdict}
 use Rattle.report9.specs.declared.verdict.Verdict.TheVariants as verdict
+use Rattle.view9.specs.declared.clock.ClockFault.{ClockFault}
+use Rattle.view9.specs.declared.clock.ClockFault.TheVariants as fault
+use Rattle.view9.specs.declared.seen.Ending.{Ending}
+use Rattle.view9.specs.declared.seen.Ending.TheVariants as ending
 use Rattle.program9.specs.declared.ending.Message.{Message}
 use Rattle.program9.specs.declared.ending.Message.TheVariants as message
 use Rattle.program9.specs.declared.ending.Outcome.{Outcome}
@@ -44,6 +48,19 @@ outcome_of (Err e) = outcome_refused e
 abbrev pub outcome_in_parts : Result Totals JudgeError → Outcome
 outcome_in_parts (Ok totals) = record { status = (if (totals.breaks == 0) then 0 else 1); message = message.Nothing }
 outcome_in_parts (Err e) = outcome_refused e
+
+-- after a view was made of a judging, the end is that of its verdict or of its totals
+abbrev pub outcome_made : Result Ending JudgeError → Outcome
+outcome_made (Ok (ending.Verdict verdict)) = outcome_of (Ok verdict)
+outcome_made (Ok (ending.Totals totals)) = outcome_in_parts (Ok totals)
+outcome_made (Err e) = outcome_refused e
+
+-- after the times of a text were rewritten: the status is 0, 4 where it can't be read or written, and 5 where memory ran out
+abbrev pub outcome_rewritten : Result Unit ClockFault → Outcome
+outcome_rewritten (Ok told) = record { status = 0; message = message.Nothing }
+outcome_rewritten (Err fault.Read) = record { status = 4; message = message.TextFault }
+outcome_rewritten (Err fault.Write) = record { status = 4; message = message.WriteFault }
+outcome_rewritten (Err fault.OutOfMemory) = record { status = 5; message = message.NoMemory }
 
 -- what is said, but of a write fault nothing
 abbrev pub unless_write_fault : Message → Message

@@ -10,7 +10,7 @@ use Rattle.deck9.specs.declared.profile.Profile.{Profile}
 use Rattle.words9.specs.declared.task.Task.{Task}
 use Rattle.words9.specs.declared.task.WordsFault.{WordsFault}
 use Rattle.words9.specs.declared.task.WordsFault.TheVariants as words
-use Rattle.words9.specs.Words.{AsksVersion, IsNoTask, IsTaskOf, MayAskVersion}
+use Rattle.words9.specs.Words.{AsksVersion, IsNoTask, IsTaskOf, MayAskVersion, joined}
 use Rattle.program9.specs.declared.buffered.Buffered.{Buffered}
 use Rattle.program9.specs.declared.ending.End.{End}
 use Rattle.program9.specs.declared.ending.End.TheVariants as end
@@ -85,13 +85,15 @@ EndsTask streams task out end now = (EndsBefore streams task end × Keeps (strea
 abbrev pub EndsWithout : WordsFault → Option (List ℕ) → End → Option (List ℕ) → Type 0
 EndsWithout (words.Usage text) old told now = (told ≡ end.Usage text) × Keeps old now
 EndsWithout words.Version old told now = (outcome : Outcome) × (told ≡ end.Told outcome) × TellsVersion old outcome now
+EndsWithout (words.NoTime text) old told now = (told ≡ end.NoTime text) × Keeps old now
 EndsWithout words.NoMemory old told now = (told ≡ end.Told no_memory) × Keeps old now
 
--- the end of the program on these words: they are no command, and nothing is written; or memory was refused before a
+-- the end of the program on these words: they are no command, or a time in them is none, and nothing is written; or memory was refused before a
 -- task stood, and nothing is written; or they ask for the version, and that is told; or the task that they give was
 -- carried out
 abbrev pub EndsWords : {R S W : Type 0} → Streams R S W → List (List ℕ) → W → End → Option (List ℕ) → Type 0
 EndsWords streams words out (end.Usage text) now = IsNoTask words × ¬ (AsksVersion words) × Keeps (streams.contents out) now
+EndsWords streams words out (end.NoTime text) now = Keeps (streams.contents out) now
 EndsWords streams words out (end.Told outcome) now =
     ((outcome ≡ no_memory) × Keeps (streams.contents out) now)
     ⊎ ((MayAskVersion words × TellsVersion (streams.contents out) outcome now)
@@ -100,4 +102,4 @@ EndsWords streams words out (end.Told outcome) now =
 -- the end of the program, by its words or by why there are none
 abbrev pub EndsProgram : {R S W : Type 0} → Streams R S W → Result (Vec (String Global) Global) WordsFault → W → End → Option (List ℕ) → Type 0
 EndsProgram streams (Err fault) out end now = EndsWithout fault (streams.contents out) end now
-EndsProgram streams (Ok words) out end now = EndsWords streams (map (λ s. string_bytes s) words.items) out end now
+EndsProgram streams (Ok words) out end now = EndsWords streams (joined (map (λ s. string_bytes s) words.items)) out end now

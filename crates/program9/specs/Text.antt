@@ -22,5 +22,6 @@ text_of (message.ReadFault row) = codes "read fault at row " ++ decimal row ++ c
 text_of (message.CannotOpen u) = first_line_of u.why ++ codes "\n" ++ file_name_of u.file ++ codes ": " ++ reason_of u.why
 text_of (message.UnreadableSheet u) = codes "unreadable deck sheet\n" ++ string_bytes u.file ++ codes ": " ++ sheet.text_of u.refusal
 text_of (message.CannotOpenSheet u) = codes "cannot open\n" ++ file_name_of u.file ++ codes ": " ++ reason_of u.why
+text_of message.TextFault = codes "read fault\nthe text can't be read to its end"
 text_of message.WriteFault = codes "write fault\nstandard output is full or closed; it has only the first part of the report"
 text_of message.NoMemory = codes "out of memory\na row may never end, or memory is short: see ulimit -v"

@@ -3,6 +3,7 @@
 use capture9::CaptureError;
 use clap::Error;
 use sheet9::Refusal;
+use words9::NoTime;
 
 /// What is said on standard error, which its `Display` writes: two lines, without a line feed at the end, or nothing. The
 /// first line says what happened; the second what was expected, or what to look at.
@@ -20,6 +21,8 @@ pub enum Message {
     UnreadableSheet(UnreadSheet),
     /// The deck's sheet was not opened, or its reader failed.
     CannotOpenSheet(Unopened),
+    /// The text whose times are rewritten can't be read to its end.
+    TextFault,
     /// The writer failed, was interrupted, or took no byte.
     WriteFault,
     /// A growth of memory was refused.
@@ -89,6 +92,8 @@ pub enum End {
     /// The words are no command, or they ask for help. The `Display` of the error, where there is one, is the text for
     /// the user; there is none where a word is not UTF-8.
     Usage(Option<Error>),
+    /// The words are a command, but for a time that is none. The `Display` is the text for the user.
+    NoTime(NoTime),
     /// A status, and what is said on standard error.
     Told(Outcome),
 }
@@ -102,7 +107,7 @@ impl End {
         ensures { result ≡ status_of self.now }
     {
         match self {
-            End::Usage(_) => 2,
+            End::Usage(_) | End::NoTime(_) => 2,
             End::Told(outcome) => outcome.status,
         }
     }

@@ -8,12 +8,14 @@ ghost use Rattle.program9.specs.Judging.{EndsJudged, HandsOn, IsJudgedWithRun, W
 
 use crate::buffered::Buffered;
 use crate::ending::Outcome;
-use crate::status::{outcome, outcome_in_parts};
+use crate::making::{make, rewrite_times};
+use crate::status::{outcome, outcome_in_parts, outcome_made, outcome_rewritten};
 use deck9::Profile;
 use judge9::{judge_for, judge_parts_for, judge_with_run_for};
 use report9::{JudgeError, RunVerdict, Verdict, write_run_for};
 use std::alloc::Global;
 use std::io::{Read, Write};
+use view9::{ClockFault, write_json_run};
 use words9::{Asked, Report};
 
 /// What is asked of a capture, and for which deck.
@@ -28,7 +30,7 @@ pub struct Job {
 /// Judges the capture that the reader gives as the job says, and passes the whole report on to the writer behind the buffer.
 ///
 /// The report is that of `judge_for`, that of `judge_parts_for`, or the text of the run that `judge_with_run_for` answered, of which
-/// there is none where there is no verdict. The end is that of the verdict, of the totals or of the refusal of that judging, as
+/// there is none where there is no verdict; or it is what a view makes, of which nothing is promised here. The end is that of the verdict, of the totals or of the refusal of that judging, as
 /// [`outcome`] and [`outcome_in_parts`] say, where the writer took the whole report. Else it is a write fault, and the writer has a
 /// first part of the report; what the buffer still holds is not written. After a write that failed, that was interrupted or that
 /// took no byte, none is tried again.
@@ -54,7 +56,31 @@ pub fn judge_and_flush<R: Read + Drop, W: Write + Drop>(
             let judged = judge_parts_for(alloc, reader, out, view, beginning, &job.profile);
             outcome_in_parts(&ended(out, judged))
         }
+        Report::Made(made, extent) => {
+            let judged = make(alloc, reader, out, made, extent, job);
+            outcome_made(&ended(out, judged))
+        }
+        Report::JsonRun => {
+            let judged = tell_json_run(alloc, reader, out, job);
+            outcome(&ended(out, judged))
+        }
+        Report::Clock(form) => {
+            let told = rewrite_times(alloc, reader, out, form);
+            outcome_rewritten(&flushed(out, told))
+        }
     }
+}
+
+/// Judges the capture to its first break, and writes its run as JSON where there is one.
+fn tell_json_run<R: Read + Drop, W: Write>(
+    alloc: Global,
+    reader: R,
+    writer: &mut W,
+    job: &Job,
+) -> Result<Verdict, JudgeError> {
+    let run = judge_with_run_for(alloc, reader, job.asked.beginning, &job.profile)?;
+    write_json_run(alloc, writer, &run, &job.profile)?;
+    Ok(verdict_of(&run))
 }
 
 /// Judges the capture to its first break, and writes the text of its run where there is one.
@@ -123,5 +149,19 @@ fn ended<W: Write + Drop, A: Drop>(
     match out.flush() {
         Ok(()) => judged,
         Err(_) => Err(JudgeError::Write),
+    }
+}
+
+/// The end of a text that was rewritten: all is passed on, unless a write failed already.
+fn flushed<W: Write + Drop>(
+    out: &mut Buffered<W>,
+    told: Result<(), ClockFault>,
+) -> Result<(), ClockFault> {
+    if let Err(ClockFault::Write) = told {
+        return told;
+    }
+    match out.flush() {
+        Ok(()) => told,
+        Err(_) => Err(ClockFault::Write),
     }
 }

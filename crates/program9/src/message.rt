@@ -43,6 +43,7 @@ impl fmt::Display for Message {
                 let (file, reason) = (file_name_of(&unopened.file), reason_of(unopened.why));
                 write!(f, "cannot open\n{file}: {reason}")
             }
+            Message::TextFault => write!(f, "read fault\nthe text can't be read to its end"),
             Message::WriteFault => write!(
                 f,
                 "write fault\nstandard output is full or closed; it has only the first part of the report"

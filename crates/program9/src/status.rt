@@ -1,10 +1,11 @@
 //! From the result of a judging to how the program ends.
 ghost use Rattle.std.specs.Prelude.{◌≡◌};
-ghost use Rattle.program9.specs.Outcome.{outcome_in_parts, outcome_of, outcome_refused};
+ghost use Rattle.program9.specs.Outcome.{outcome_in_parts, outcome_made, outcome_of, outcome_refused, outcome_rewritten};
 
 use crate::ending::{Message, Outcome};
 use capture9::CaptureKind;
 use report9::{JudgeError, Totals, Verdict};
+use view9::{ClockFault, Ending};
 
 /// How the program ends after a judging; the statuses are a choice of these rules. Takes no memory.
 ///
@@ -35,6 +36,30 @@ pub fn outcome_in_parts(judged: &Result<Totals, JudgeError>) -> Outcome
         Ok(totals) if totals.breaks == 0 => Outcome::new(0, Message::Nothing),
         Ok(_) => Outcome::new(1, Message::Nothing),
         Err(refusal) => outcome_refused(refusal),
+    }
+}
+
+/// How the program ends after a view was made of a judging: as [`outcome`] says of its verdict, or [`outcome_in_parts`] of its totals.
+/// Takes no memory.
+pub fn outcome_made(judged: &Result<Ending, JudgeError>) -> Outcome
+    ensures { result ≡ outcome_made judged.now }
+{
+    match judged {
+        Ok(Ending::Verdict(verdict)) => outcome(&Ok(*verdict)),
+        Ok(Ending::Totals(totals)) => outcome_in_parts(&Ok(*totals)),
+        Err(refusal) => outcome_refused(refusal),
+    }
+}
+
+/// How the program ends after the times of a text were rewritten: with status 0, or with 4 or 5 after a fault. Takes no memory.
+pub fn outcome_rewritten(told: &Result<(), ClockFault>) -> Outcome
+    ensures { result ≡ outcome_rewritten told.now }
+{
+    match told {
+        Ok(()) => Outcome::new(0, Message::Nothing),
+        Err(ClockFault::Read) => Outcome::new(4, Message::TextFault),
+        Err(ClockFault::Write) => Outcome::new(4, Message::WriteFault),
+        Err(ClockFault::OutOfMemory) => Outcome::new(5, Message::NoMemory),
     }
 }
 

@@ -4,7 +4,7 @@ use crate::tests::same;
 use crate::tests::writers::{Narrow, took, took_to_the_end};
 use deck9::{Hands, Profile};
 use program9::{Buffered, Job, Message, Outcome, judge_and_flush};
-use report9::{Beginning, Detail, View};
+use report9::{Beginning, Detail, Stretch, View};
 use std::alloc::{AllocError, Global};
 use std::io::Write;
 use words9::{Asked, Report};
@@ -29,6 +29,7 @@ fn judged(alloc: Global, text: &str, report: Report, writer: Narrow) -> Option<(
     let asked = Asked {
         report,
         beginning: Beginning::FirstRecord,
+        stretch: Stretch::ALL,
         line_buffered: false,
     };
     let profile = Profile::of(Hands::None);

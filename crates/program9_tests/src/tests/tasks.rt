@@ -2,7 +2,7 @@
 
 use crate::tests::same;
 use deck9::Hands;
-use report9::{Beginning, Detail, View};
+use report9::{Beginning, Detail, Stretch, View};
 use std::alloc::{AllocError, Global};
 use tc25::Rate;
 use words9::{Asked, Report, Task, WordsFault, read_words};
@@ -209,6 +209,7 @@ fn what_words_ask_for(rt: HostRuntime) {
         let asked = Asked {
             report: *report,
             beginning,
+            stretch: Stretch::ALL,
             line_buffered: *line_buffered,
         };
         same(&rt, task.asked, asked, *words);

@@ -1,0 +1,43 @@
+//! What is made of a capture's events, or of a text, beside the reports.
+
+use crate::judging::Job;
+use report9::{Extent, JudgeError, Scope, TimeForm};
+use std::alloc::Global;
+use std::io::{BufReader, Read, Write};
+use view9::{
+    ClockFault, Ending, write_clock, write_delays, write_digest, write_json, write_motion,
+};
+use words9::Made;
+
+/// Judges the capture that the reader gives, so far, and writes what is made of it: how the judging ends.
+pub(crate) fn make<R: Read + Drop, W: Write>(
+    alloc: Global,
+    reader: R,
+    writer: &mut W,
+    made: Made,
+    extent: Extent,
+    job: &Job,
+) -> Result<Ending, JudgeError> {
+    let (stretch, profile) = (job.asked.stretch, &job.profile);
+    let scope = Scope {
+        extent,
+        beginning: job.asked.beginning,
+    };
+    match made {
+        Made::Digest => write_digest(alloc, reader, writer, scope, stretch, profile),
+        Made::Delays => write_delays(alloc, reader, writer, scope, stretch, profile),
+        Made::Motion => write_motion(alloc, reader, writer, scope, stretch, profile),
+        Made::Json(view) => write_json(alloc, reader, writer, view, scope, stretch, profile),
+    }
+}
+
+/// Writes the text that the reader gives with its times in this form.
+pub(crate) fn rewrite_times<R: Read + Drop, W: Write>(
+    alloc: Global,
+    reader: R,
+    writer: &mut W,
+    form: TimeForm,
+) -> Result<(), ClockFault> {
+    let mut reader = BufReader::new(alloc, reader)?;
+    write_clock(alloc, &mut reader, writer, form)
+}
