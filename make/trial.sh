@@ -30,14 +30,16 @@ name_files() {
     for at in "${!words[@]}"; do
         word=${words[at]}
         [ "$at" -gt 0 ] || continue
+        case $at:${words[0]}:$word in 1:json:check | 1:json:explain | 1:json:run | 1:json:why) continue ;; esac
         case $awaits in
-            --rate) awaits=; continue ;;
             --deck) awaits=; name_file "$at" '' "$word"; continue ;;
+            ?*) awaits=; continue ;;
         esac
         case $options$word in
             true--) options=false ;;
-            true--hands | true--sync | true--all | true--line-buffered | true--bytes | true--rate=*) ;;
-            true--rate | true--deck) awaits=$word ;;
+            true--hands | true--sync | true--all | true--line-buffered | true--bytes | true--seconds) ;;
+            true--rate=* | true--from=* | true--to=*) ;;
+            true--rate | true--deck | true--from | true--to) awaits=$word ;;
             true--deck=*) name_file "$at" --deck= "${word#--deck=}" ;;
             true-?*) reads_input=false ;;
             *) reads_input=false; name_file "$at" '' "$word" ;;
@@ -49,7 +51,7 @@ name_file() {
     case $3 in '' | /*) ;; *) named+=("$3"); words[$1]=$2$PWD/$3 ;; esac
 }
 case ${1-} in
-    check | explain | run | why) name_files ;;
+    check | explain | run | why | digest | delays | motion | json | clock) name_files ;;
     *) reads_input=false ;;
 esac
 

@@ -5,9 +5,11 @@ _ninecheck_options() {
     local judging='--hands --sync --all --line-buffered --rate --deck'
     case $1 in
         check) echo "$judging --help" ;;
-        explain | digest | delays | motion | json) echo "--bytes $judging --help" ;;
+        explain) echo "--bytes $judging --help" ;;
+        digest | delays | motion | json | 'json explain') echo "--bytes $judging --from --to --help" ;;
+        'json check' | 'json why') echo "$judging --from --to --help" ;;
         why) echo "$judging --quiet --help" ;;
-        run) echo '--hands --sync --rate --deck --help' ;;
+        run | 'json run') echo '--hands --sync --rate --deck --help' ;;
         picture) echo "--at --width $judging --help" ;;
         touches) echo '--sync --rate --deck --help' ;;
         page) echo '--hands --sync --rate --deck --help' ;;
@@ -32,7 +34,11 @@ _ninecheck() {
         convert:2) mapfile -t COMPREPLY < <(compgen -W 'sigrok saleae log --help' -- "$word") && return ;;
         json:2) [[ $word == -* ]] || { mapfile -t COMPREPLY < <(compgen -fW 'check explain run why' -- "$word") && return; } ;;
     esac
-    [ "$asked" != convert ] || asked=${COMP_WORDS[2]}
+    case $asked:$COMP_CWORD:${COMP_WORDS[2]} in
+        convert:*) asked=${COMP_WORDS[2]} ;;
+        json:2:*) ;;
+        json:*:check | json:*:explain | json:*:run | json:*:why) asked="json ${COMP_WORDS[2]}" ;;
+    esac
     # In `--rate=25` the equals sign is a word of its own.
     [ "$word" != = ] || word=
     [ "$before" != = ] || before=${COMP_WORDS[COMP_CWORD - 2]}

@@ -42,6 +42,11 @@ if [[ $asked == convert ]]; then
     (( CURRENT-- ))
     asked=$words[2]
 fi
+if [[ $asked == json && $CURRENT -gt 3 && $words[3] == (check|explain|run|why) ]]; then
+    shift words
+    (( CURRENT-- ))
+    asked="json $words[2]"
+fi
 local hands='--hands[somebody may have touched the panel of the deck]'
 local sync='--sync[the capture may begin inside a command or a reply]'
 local rate='--rate[the frame rate of the machine, 25 if left out]:rate:(24 25 30 29.97df)'
@@ -51,11 +56,14 @@ local buffered='--line-buffered[write each line as soon as it is complete]'
 local bytes='--bytes[write each exchange with its bytes, as why does]'
 local from='--from[leave out the bytes before this time, in seconds]:seconds:'
 local to='--to[leave out the bytes from this time on, in seconds]:seconds:'
+local -a shown=('--from[show what comes at this time or later]:time:' '--to[show what comes before this time]:time:')
 case $asked in
     check) options=($hands $sync $rate $sheet $all $buffered) ;;
-    explain | digest | delays | motion | json) options=($bytes $hands $sync $rate $sheet $all $buffered) ;;
+    explain) options=($bytes $hands $sync $rate $sheet $all $buffered) ;;
+    digest | delays | motion | json | 'json explain') options=($bytes $hands $sync $rate $sheet $all $buffered $shown) ;;
+    'json check' | 'json why') options=($hands $sync $rate $sheet $all $buffered $shown) ;;
     why) options=($hands $sync $rate $sheet $all $buffered '--quiet[without the line that says what to ask next]') ;;
-    run | page) options=($hands $sync $rate $sheet) ;;
+    run | page | 'json run') options=($hands $sync $rate $sheet) ;;
     touches) options=($sync $rate $sheet) ;;
     picture)
         options=($hands $sync $rate $sheet $all $buffered

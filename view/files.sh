@@ -3,10 +3,7 @@
 # view_files VIEW: they stand in the order in which awk takes them, the view's own first, and then what it shares with others.
 view_files() {
     case $1 in
-        digest) echo 'digest changes names explanation capture times refuse report' ;;
         touches) echo 'touches explanation capture times refuse report' ;;
-        motion) echo 'motion transport track explanation capture times refuse report' ;;
-        delays) echo 'delays delay_counts explanation capture refuse report' ;;
         picture) echo 'picture around contradiction_rows replies drawing names page/html capture times refuse report' ;;
         page)
             echo 'page/main page/head page/style page/session page/bins page/marks page/modes page/lanes page/axis page/happened'
@@ -19,7 +16,5 @@ view_files() {
             echo 'page/breaks page/why page/sentences page/contradiction page/reasons page/pictures page/break_style'
             echo 'around replies drawing names page/html'
             ;;
-        json) echo 'json refuse report' ;;
-        clock) echo 'clock times refuse' ;;
     esac
 }

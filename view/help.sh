@@ -7,14 +7,9 @@ For the bench:
   convert  Make a capture of what sigrok, Saleae Logic or a serial logger exports
   split    Cut a long capture into parts
   try      Ask at each frame rate, without hands and with, and with a sheet
-  digest   What happened: each command, and each change of what is known
-  delays   How long the deck took to reply
-  motion   What the deck did after each transport command
   touches  Where somebody must have touched the deck's front panel
   picture  A picture (SVG) of the record that breaks a rule
   page     The whole session as one page (HTML), to look at and to send on
-  json     A JSON object for each line of a report
-  clock    A text with its times as a clock
 END
 }
 
@@ -26,7 +21,6 @@ word_usage() {
         'convert log') echo 'Usage: ninecheck convert log --controller <PORT> --deck <PORT> [OPTIONS] [FILE]' ;;
         convert) echo 'Usage: ninecheck convert <sigrok|saleae|log> [OPTIONS] [FILE]' ;;
         split) echo 'Usage: ninecheck split --to <NAME> [OPTIONS] [FILE]' ;;
-        json) echo 'Usage: ninecheck json [check|explain|run|why] [OPTIONS] [FILE]' ;;
         *) echo "Usage: ninecheck $word [OPTIONS] [FILE]" ;;
     esac
 }
@@ -38,7 +32,7 @@ show_help() {
     echo
     word_usage
     case $word in
-        convert* | split | clock | try) echo && word_options ;;
+        convert* | split | try) echo && word_options ;;
         *)
             echo
             ask "$asks" --help | sed -n '/^Arguments:/,$p' | without_options
@@ -62,14 +56,9 @@ word_about() {
         convert*) echo 'Makes a capture of an export of both wires, and writes it to standard output' ;;
         split) echo 'Cuts a capture into parts that begin between exchanges: NAME-001.csv, NAME-002.csv and so on' ;;
         try) echo 'Judges a capture at each frame rate, without hands and with, and with a sheet and without: a line for each' ;;
-        digest) echo 'Folds an explanation: each command, and each query that changed what is known; others are counted' ;;
-        delays) echo 'Counts how long the deck took to reply, for each command and overall' ;;
-        motion) echo 'Tells what the deck did after each transport command that it acknowledged; it judges nothing' ;;
         touches) echo "Tells where somebody must have touched the deck's front panel, as seldom as possible, and what changed" ;;
         picture) echo 'Draws the record that breaks a rule, or the replies that contradict one another, as an SVG' ;;
         page) echo 'Makes a page of the whole capture: HTML that needs no network, to look at and to send on' ;;
-        json) echo 'Makes a JSON object of each line of a report; of explain if no subcommand is named' ;;
-        clock) echo 'Writes the times of a text as a clock: of a report, of a digest or of a motion' ;;
     esac
 }
 
@@ -123,13 +112,6 @@ Options:
       --to <NAME>  How the parts are called
       --rows <N>   The most rows of a part: 4000000 if left out
 END
-        clock) cat <<'END' ;;
-Arguments:
-  [FILE]  The text; standard input if left out
-
-Options:
-      --seconds  Write the times in seconds
-END
         try) cat <<'END' ;;
 Arguments:
   [FILE]  The capture of both wires of the RS-422 line, as CSV; standard input if left out
@@ -151,15 +133,14 @@ END
 # top_help WORDS...: what the program says of itself, with the other words below its own. The status is the program's.
 top_help() {
     case ${2-} in
-        convert | split | try | digest | delays | motion | touches | picture | page | json | clock)
+        convert | split | try | touches | picture | page | why)
             [ "$1" != help ] || exec "$self" "$2" --help ;;
     esac
     (run_program "$@")
     status=$?
-    case $status:$#:${2-} in
-        2:0:) { echo && bench_words; } >&2 ;;
-        2:1:) echo && bench_words ;;
-        2:2:why) echo && echo "      --quiet  Without the line on standard error that says what to ask next" ;;
+    case $status:$# in
+        2:0) { echo && bench_words; } >&2 ;;
+        2:1) echo && bench_words ;;
     esac
     exit $status
 }

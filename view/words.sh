@@ -7,11 +7,9 @@
 word=$1
 shift
 takes_files='' takes='' flags='' passes_value='--rate --deck' passes='--hands --sync --all --bytes --line-buffered'
-asks=explain
 case $word in
-    json) case ${1-} in check | explain | run | why) asks=$1 && shift ;; esac ;;
     picture) asks=why takes='--at --width' ;;
-    page) flags='--all --bytes --line-buffered' passes='--hands --sync' ;;
+    page) asks=explain flags='--all --bytes --line-buffered' passes='--hands --sync' ;;
     touches) asks=run flags='--hands --sync' passes='--all --bytes --line-buffered' ;;
 esac
 . "$share/view/arguments.sh"
@@ -19,22 +17,19 @@ hold_files
 keep_capture
 sync=${own_sync:+1}
 
-# What is asked for besides: the bytes tell which commands only ask.
 case $word in
     touches) . "$share/view/touches.sh" ;;
     page)
         . "$share/view/page.sh"
+        # The bytes tell which commands only ask.
         set -- --all --bytes "$@" ;;
-    digest) [ -n "$own_bytes" ] || set -- --bytes "$@" ;;
 esac
 
 # make_view: of the report on standard input.
 make_view() {
     case $word in
-        json) run_view json ;;
         page) make_page ;;
         picture) run_view picture "capture=$capture" "sync=$sync" "at=$own_at" "width=$own_width" ;;
-        *) run_view "$word" "capture=$capture" "sync=$sync" "rate=$own_rate" ;;
     esac
 }
 {
