@@ -8,8 +8,6 @@ need_tools jq
 . tests/lib/judge.sh
 . tests/lib/program.sh
 . tests/lib/blocks.sh
-. tests/lib/awk.sh
-awk=${AWK:-awk}
 
 # says WORDS STATUS TEXT: the program with these words on $work/capture.csv.
 says() {
@@ -122,28 +120,17 @@ done
 for file in session hands keeps-playing several-breaks late-replies; do
     words=--hands
     case $file in several-breaks | late-replies) words=--all ;; esac
-    "$program" explain $words "examples/views/$file.csv" > "$work/named"
-    "$program" explain --bytes $words "examples/views/$file.csv" > "$work/lines"
     for view in digest delays motion; do
-        for capture in '' "-v capture=examples/views/$file.csv"; do
-            [ "$view$capture" != motion ] || continue
-            # shellcheck disable=SC2086
-            "$awk" $capture $(files_of $view) "$work/named" > "$work/want" 2> "$work/err"
-            # shellcheck disable=SC2086
-            "$awk" $capture $(files_of $view) "$work/lines" > "$work/out" 2>> "$work/err"
-            judge "$view of $file $capture" eval 'cmp "$work/out" "$work/want" && [ -s "$work/out" ] && [ ! -s "$work/err" ]'
-        done
+        "$program" $view $words "examples/views/$file.csv" > "$work/want"
+        run $view --bytes $words "examples/views/$file.csv"
+        judge "$view of $file" eval 'cmp "$work/out" "$work/want" && [ -s "$work/out" ]'
     done
-    "$awk" $(files_of json) "$work/named" > "$work/want"
-    "$awk" $(files_of json) "$work/lines" > "$work/more"
+    "$program" json $words "examples/views/$file.csv" > "$work/want"
+    "$program" json --bytes $words "examples/views/$file.csv" > "$work/more"
     jq -c 'del(.first_record, .time_us, .command_time, .command_bytes, .reply_time, .reply_bytes, .says)' "$work/more" > "$work/out"
     judge "json of $file" cmp "$work/out" "$work/want"
     judge "json of $file has the bytes of each exchange" \
-        [ "$(jq -r 'select(.line == "exchange") | .command_bytes + .reply_bytes' "$work/more" | grep -c ' ')" = "$(grep -c '^records ' "$work/lines")" ]
+        [ "$(jq -r 'select(.line == "exchange") | .command_bytes + .reply_bytes' "$work/more" | grep -c ' ')" = "$(grep -c '"exchange",' "$work/want")" ]
 done
-capture_of "$sense_ltc $ltc"
-"$program" explain --bytes "$work/capture.csv" | "$awk" $(files_of json) | head -n 1 > "$work/out"
-echo '{"line":"exchange","record":11,"command":"CURRENT TIME SENSE","reply":"74 04","delay_us":400,"goal":"unknown","shown":"unknown","in":"unknown","out":"unknown","local":"unknown","ain":"unknown","aout":"unknown","first_record":1,"time_us":400,"command_bytes":"61 0C 01 6E","reply_time":"10:00:00:00","reply_bytes":"74 04 00 00 00 10 88","says":{}}' > "$work/want"
-judge 'json of a time' cmp "$work/out" "$work/want"
 
 tell_counts

@@ -6,13 +6,15 @@
 #
 #   block NAME RECORDS   a name for records, for all cases after it in the same table; those of tests/lib/blocks.txt have a name
 #                        in every table
+#   name NAME TEXT       a name for a text, in which \n parts lines: `@NAME` in a line of what is written stands for it
 #   case NAME            begins a case
 #   ask WORDS            the words of the command line; the capture comes on standard input. Where several such lines stand, the
 #                        same must come of each
 #   records RECORDS      a header, and then these records; more such lines go on with the capture. A record is a byte, after
 #                        the letter of its wire, 400 microseconds after the record before, or N where +N stands before it.
 #                        A block's name stands for its records, and 'N times NAME' for them so often
-#   text TEXT            the capture as it is, with \n, \r, \t and \\; after records it goes on with them
+#   session WORDS        the same in words of a session, which tests/lib/session.awk tells
+#   text TEXT            the capture as it is, with \n, \r, \t, \\, and \b for a byte order mark; after records it goes on with them
 #   status N             the status
 #   out LINE, err LINE   a line of standard output, and one of standard error; none: nothing is written there
 #
@@ -26,7 +28,8 @@
 # Beside that check, explain, run and why, each with hands and at a rate where they are asked for, must end with the same status as
 # what is asked, with the same last line where there is a verdict, and with the same standard error. With --all check, explain and why must
 # write the same first, and of a yes the totals in its place. Where --all is asked for itself, all three must have the same breaks,
-# totals, status and standard error. This is not tried where the words are at fault or a file is not opened.
+# totals, status and standard error. This is not tried where the words are at fault or a file is not opened. Of a view (digest, delays,
+# motion, json) `check` must end with the same status and the same standard error.
 #
 # What another script asks of a capture, and holds to the whole of its answer, is not asked here again.
 set -u
@@ -103,10 +106,21 @@ ends_so() {
     done
 }
 
+# ends_as_check WORDS...: with those of these words that it takes, `check` ends so too.
+ends_as_check() {
+    local words=() word
+    shift
+    for word; do
+        case $word in --hands | --sync | --all | --rate=* | --deck=*) words+=("$word") ;; esac
+    done
+    ask check "${words[@]}"
+    [ "$status" = "$(cat "$folder/status")" ] && cmp -s "$work/err" "$folder/err"
+}
+
 for table in tests/cases/*.txt; do
     name=$(basename "$table" .txt)
     mkdir "$work/$name"
-    judge "$table can be read" awk -v into="$work/$name" -f tests/lib/cases.awk tests/lib/blocks.txt "$table"
+    judge "$table can be read" awk -v into="$work/$name" -f tests/lib/cases.awk -f tests/lib/session.awk tests/lib/blocks.txt "$table"
     for folder in "$work/$name"/*; do
         while IFS= read -r words; do
             # shellcheck disable=SC2086
@@ -114,7 +128,11 @@ for table in tests/cases/*.txt; do
             judge "$name: $(cat "$folder/name"), $words" is_case
             case $(cat "$folder/status") in 0 | 1 | 3) ;; *) continue ;; esac
             # shellcheck disable=SC2086
-            judge "$name: $(cat "$folder/name"), $words, and what else can be asked" ends_so $words
+            case $words in
+                clock*) ;;
+                digest* | delays* | motion* | json*) judge "$name: $(cat "$folder/name"), $words, as check ends" ends_as_check $words ;;
+                *) judge "$name: $(cat "$folder/name"), $words, and what else can be asked" ends_so $words ;;
+            esac
         done < "$folder/words"
     done
 done

@@ -79,6 +79,21 @@ for verb in check explain why; do
     judge "$verb without --line-buffered, the same text" cmp "$work/out" "$work/want"
 done
 
+# The same of views. A digest tells a break once it is known whether an equal one follows.
+for steps in 'digest 8=record~8,~ 14=record~14,~ 33=record~33,~ 37=no~at~record~37:~L1 39=record~39,~' \
+    'json 8={"line":"exchange","record":8, 21={"line":"verdict","verdict":"no","record":21, 37={"line":"late_reply","record":37,' \
+    'motion 20=record~14,~0.005600~s:~PLAY 21=record~20,~0.008000~s:~PLAY 39=record~20,'; do
+    verb=${steps%% *}
+    begin "$verb" --line-buffered --all
+    for step in ${steps#* }; do
+        grow "${step%%=*}"
+        want=${step#*=}
+        judge "$verb, after ${step%%=*} rows" ends_soon "${want//\~/ }"
+    done
+    end
+    judge "$verb, at the end" eval '[ "$status" = 1 ] && [ ! -s "$work/err" ]'
+done
+
 # To the first break: the no is told, and the program ends, before another row comes and while the capture may still grow.
 
 # ends_by_itself: within twenty seconds the program has ended; else it is ended.

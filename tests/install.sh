@@ -71,8 +71,8 @@ run_pages() {
                 judge "$name: the capture of $export" [ "$status" = 0 ] ;;
         esac
     done < <(sed -n 's#^    \./\(ninecheck convert .*examples/exports.*\)#\1#p' "$root/share/doc/ninecheck/CAPTURE.md"
-        sed -n 's/^    \$ //p' "$root/share/doc/ninecheck/VIEWS.md" | sed 's#\./ninecheck#ninecheck#g')
-    judge "$name: the pages' commands: $commands" [ "$commands" = 22 ]
+        sed -n 's/^    \$ //p' "$root/share/doc/ninecheck/VIEWS.md" "$root/share/doc/ninecheck/JSON.md" | sed 's#\./ninecheck#ninecheck#g')
+    judge "$name: the pages' commands: $commands" [ "$commands" = 25 ]
     cmp "$work/a copy/late-reply.svg" docs/pictures/late-reply.svg > "$work/out" 2>&1
     status=$?
     judge "$name: the picture" [ "$status" = 0 ]
@@ -153,6 +153,10 @@ ninecheck e|explain|explain
 ninecheck -|--help --version -V -h|--help --version -V -h
 ninecheck why -|--all --deck --hands --help --line-buffered --quiet --rate --sync -h|--all --deck --hands --help --line-buffered --quiet --rate --sync -h
 ninecheck try -|--all --deck --help --sync -h|--all --deck --help --sync -h
+ninecheck digest -|--all --bytes --deck --from --hands --help --line-buffered --rate --sync --to -h|--all --bytes --deck --from --hands --help --line-buffered --rate --sync --to -h
+ninecheck json run -|--deck --hands --help --rate --sync -h|--deck --hands --help --rate --sync -h
+ninecheck json why -|--all --deck --from --hands --help --line-buffered --rate --sync --to -h|--all --deck --from --hands --help --line-buffered --rate --sync --to -h
+ninecheck clock --s|--seconds|--seconds
 ninecheck picture --w|--width|--width
 ninecheck convert |log saleae sigrok|log saleae sigrok
 ninecheck convert log --unit |ms us|ms us
@@ -220,6 +224,14 @@ complete_words ninecheck run --
 expect 'options are offered' 0 '--hands --sync --rate --deck --help' ''
 complete_words ninecheck explain --
 expect 'options are offered where the judging can go on' 0 '--bytes --hands --sync --all --line-buffered --rate --deck --help' ''
+complete_words ninecheck motion --
+expect 'options of what is made of a capture are offered' 0 '--bytes --hands --sync --all --line-buffered --rate --deck --from --to --help' ''
+complete_words ninecheck json why --
+expect 'options of objects are offered' 0 '--hands --sync --all --line-buffered --rate --deck --from --to --help' ''
+complete_words ninecheck json run --
+expect 'options of a run in objects are offered' 0 '--hands --sync --rate --deck --help' ''
+complete_words ninecheck json exp
+expect 'a report is completed' 0 'explain' ''
 complete_words ninecheck try --
 expect 'options of a word that is not the program'"'"'s own' 0 '--all --sync --deck --help' ''
 complete_words ninecheck convert s
@@ -241,7 +253,8 @@ status=$?
 expect 'the man page' 0 '' ''
 
 # Each subcommand and option that the program's help names stands in the man page and in each completion.
-for word in $(./ninecheck --help | awk '/^(Commands|For the bench):/ { on = 1; next } /^$/ { on = 0 } on { print $1 }') quiet hands sync all rate deck version; do
+for word in $(./ninecheck --help | awk '/^(Commands|For the bench):/ { on = 1; next } /^$/ { on = 0 } on { print $1 }') \
+    quiet hands sync all rate deck bytes from to seconds version; do
     for file in package/ninecheck.1 package/ninecheck.bash package/ninecheck.zsh package/ninecheck.fish; do
         holds "$word in $file" grep -qw -- "$word" "$file"
     done

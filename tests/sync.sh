@@ -445,37 +445,23 @@ moved() {
     }'
 }
 
-# Views that read the capture take such a report with -v sync=1: what they tell is what they tell of the rest. A motion's number
-# stands in a column.
+# What the views tell of such a capture is what they tell of the rest. A motion's number stands in a column.
 for file in examples/*.csv; do
     for cut in 1 4 7; do
         awk -v cut="$cut" 'NR == 1 || NR > cut + 1' "$file" > "$work/capture.csv"
         "$program" check --sync --all "$work/capture.csv" > "$work/out" 2> "$work/err" || [ ! -s "$work/err" ] || continue
-        for words in explain 'explain --all'; do
-            by=$(awk -F, 'NR > 1 { if (NR > 2 && $2 == "C" && (wire == "D" || $1 - time > 10287)) exit; wire = $2; time = $1; by++ }
-                END { print by + 0 }' "$work/capture.csv")
-            awk -v by="$by" 'NR == 1 || NR > by + 1' "$work/capture.csv" > "$work/rest.csv"
+        by=$(awk -F, 'NR > 1 { if (NR > 2 && $2 == "C" && (wire == "D" || $1 - time > 10287)) exit; wire = $2; time = $1; by++ }
+            END { print by + 0 }' "$work/capture.csv")
+        awk -v by="$by" 'NR == 1 || NR > by + 1' "$work/capture.csv" > "$work/rest.csv"
+        for words in digest delays motion 'digest --all' 'delays --all' 'motion --all'; do
             # shellcheck disable=SC2086
-            "$program" $words --sync "$work/capture.csv" > "$work/report"
+            "$program" $words --sync "$work/capture.csv" 2>&1 | moved 0 > "$work/out"
             # shellcheck disable=SC2086
-            "$program" $words "$work/rest.csv" > "$work/of_rest"
-            for view in digest delays motion; do
-                name="$view of $words, $(basename "$file") without its first $cut records"
-                awk -v sync=1 -v capture="$work/capture.csv" $(files_of $view) < "$work/report" 2>&1 | moved 0 > "$work/out"
-                awk -v capture="$work/rest.csv" $(files_of $view) < "$work/of_rest" 2>&1 | moved "$by" > "$work/want"
-                if [ "$view" = motion ]; then
-                    sed -i -E 's/^( .*[^ ]) +[0-9]+(  [A-Z])/\1\2/' "$work/out" "$work/want"
-                fi
-                judge "$name" cmp "$work/out" "$work/want"
-            done
+            "$program" $words "$work/rest.csv" 2>&1 | moved "$by" > "$work/want"
+            case $words in motion*) sed -i -E 's/^( .*[^ ]) +[0-9]+(  [A-Z])/\1\2/' "$work/out" "$work/want" ;; esac
+            judge "$words of $(basename "$file") without its first $cut records" cmp "$work/out" "$work/want"
         done
     done
-done
-awk 'NR == 1 || NR > 5' examples/in-point.csv > "$work/capture.csv"
-"$program" explain --sync "$work/capture.csv" > "$work/report"
-for view in digest delays motion; do
-    awk -v sync=1 -v capture=examples/in-point.csv $(files_of $view) < "$work/report" > "$work/out" 2> "$work/err"
-    judge "$view with another capture" [ -s "$work/err" ]
 done
 
 # A picture with -v sync=1 is that of the rest: of PLAY, that is answered too soon, and not of blocks with bytes of two commands.

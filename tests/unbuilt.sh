@@ -9,6 +9,7 @@ tree=$work/tree
 mkdir -p "$tree/crates/ninecheck/src" "$tree/a folder" "$work/bin" "$work/temporary"
 cp -r ninecheck ./make ./view ./convert "$tree/"
 echo 'a capture' > "$tree/a folder/play.csv"
+cp examples/late-reply.csv "$tree/a folder/late.csv"
 (cd "$tree" && find . | LC_ALL=C sort) > "$work/before"
 first='ninecheck: not built yet: this answer comes from the same code with run-time checks and without its proof; `make` proves and builds it'
 advice='ninecheck: run `make`: it proves and builds the program, which has no such limit'
@@ -91,20 +92,22 @@ judge 'a rate and a sheet, with standard input' was_told "[check][--rate][30][--
 ask check --rate=30 --deck=sheet.toml 'a folder/play.csv' < /dev/null
 judge 'a rate and a sheet in one word each' was_told "[check][--rate=30][--deck=$tree/sheet.toml][$tree/a folder/play.csv]"
 
+# The words that make something of a capture, the times of what is shown, and the report that objects are made of.
+printf 'a row\n' | ask digest --from 0 --to 1 --bytes
+judge 'a stretch is no file' was_told '[digest][--from][0][--to][1][--bytes]a row'
+printf 'a row\n' | ask json why --all --from=1
+judge 'a report is no file' was_told '[json][why][--all][--from=1]a row'
+ask motion why < /dev/null
+judge 'a file that is called like a report' was_told "[motion][$tree/why]"
+printf 'a row\n' | ask clock --seconds
+judge 'a text for the clock' was_told '[clock][--seconds]a row'
+
 # The words that ask the program ask the trial, and tell its first line once.
-cp examples/play.csv "$tree/a folder/play.csv"
 ended='checked: ended status=0\nrun=ended status=0 runners=1 proved=no\n'
-exchange='records 1 to 6 at 400: PLAY 20 01 21 -> 10 01 11, delay 400, goal PLAY, shown unknown, in unknown, out unknown, local unknown, ain unknown, aout unknown'
-stand_in 0 "$exchange\nyes: records 6, exchanges 1, open 0\n" "$ended"
-ask digest 'a folder/play.csv' < /dev/null
-judge 'a digest' is_text 0 'record 6, 0.002400 s: PLAY -> ACK, goal: unknown => PLAY
-yes: records 6, exchanges 1, open 0
-known, of 1 exchanges: shown 0.0 %, in 0.0 %, out 0.0 %, local 0.0 %, ain 0.0 %, aout 0.0 %' "$first"
-judge 'a digest asks for an explanation with bytes' was_told "[explain][--bytes][--][$tree/a folder/play.csv]"
-for word in delays motion json; do
-    ask $word 'a folder/play.csv' < /dev/null
-    judge "$word" eval '[ "$status" = 0 ] && [ -s "$work/out" ] && [ "$(cat "$work/err")" = "$first" ]'
-done
+stand_in 1 'no at record 4: L1 late reply\n' "$ended"
+ask picture 'a folder/late.csv' < /dev/null
+judge 'a picture' eval '[ "$status" = 1 ] && grep -q "</svg>" "$work/out" && [ "$(cat "$work/err")" = "$first" ]'
+judge 'a picture asks why' was_told "[why][--][$tree/a folder/late.csv]"
 stand_in 0 'breaks 0: records 6, exchanges 1, passed over 0, open 0\n' "$ended"
 ask try --all < "$tree/a folder/play.csv"
 judge 'try' eval '[ "$status" = 0 ] && [ "$(wc -l < "$work/out")" = 8 ] && [ "$(cat "$work/err")" = "$first" ]'
@@ -113,8 +116,8 @@ stand_in 1 'no at record 4: L1 late reply\n' "$ended"
 ask why 'a folder/play.csv' < /dev/null
 judge 'why asks once' is_text 1 'no at record 4: L1 late reply' "$first"
 stand_in 6 '' 'checked: no-answer: the program wrote more than 1048576 bytes to standard output\nrun=no-answer proved=no\n'
-ask digest 'a folder/play.csv' < /dev/null
-judge 'a digest without an answer' is_text 125 '' "$first
+ask picture 'a folder/late.csv' < /dev/null
+judge 'a picture without an answer' is_text 125 '' "$first
 ninecheck: no answer: it has over 1 MiB
 $advice"
 ask convert sigrok --samplerate 2000000 < examples/exports/sigrok.txt

@@ -37,21 +37,7 @@ made_views() {
         judge "$shell, $awk: $words < $capture" is_view "$want_status" "$want"
     done <<'END'
 digest|examples/views/session.csv|1|examples/views/session-digest.txt
-digest --hands|examples/views/hands.csv|0|examples/views/hands-digest.txt
-digest --all|examples/views/several-breaks.csv|1|examples/views/several-breaks-digest.txt
-digest --rate 29.97df|examples/views/drop-frame.csv|0|examples/views/drop-frame-digest.txt
-digest --all --bytes|examples/views/late-replies.csv|1|examples/views/late-replies-digest.txt
-delays|examples/views/session.csv|1|examples/views/session-delays.txt
-delays --all|examples/views/several-breaks.csv|1|examples/views/several-breaks-delays.txt
-delays --line-buffered --all|examples/views/late-replies.csv|1|examples/views/late-replies-delays.txt
-motion|examples/views/keeps-playing.csv|0|examples/views/keeps-playing-motion.txt
-motion --all|examples/views/late-replies.csv|1|examples/views/late-replies-motion.txt
-motion --rate=29.97df|examples/views/drop-frame.csv|0|examples/views/drop-frame-motion.txt
-json --hands|examples/views/hands.csv|0|examples/views/hands-json.txt
-json explain --hands|examples/views/hands.csv|0|examples/views/hands-json.txt
-json --all|examples/views/several-breaks.csv|1|examples/views/several-breaks-json.txt
 json why --all|examples/views/several-breaks.csv|1|examples/views/several-breaks-why-json.txt
-json --rate 29.97df|examples/views/drop-frame.csv|0|examples/views/drop-frame-json.txt
 picture|examples/late-reply.csv|1|docs/pictures/late-reply.svg
 picture|examples/disputed-in-point.csv|1|docs/pictures/disputed-in-point.svg
 END
@@ -66,21 +52,17 @@ refused_words() {
         printf '%b\n' "$want" > "$work/want"
         judge "$shell, $awk: $words" is_refused_so "$want_status"
     done <<'END'
-digest examples/bad-byte.csv|3|@check examples/bad-byte.csv
-json why examples/bad-byte.csv|3|@check examples/bad-byte.csv
 picture --all examples/wrong-header.csv|3|@check examples/wrong-header.csv
 touches examples/bad-byte.csv|3|@check examples/bad-byte.csv
-delays absent.csv|4|@check absent.csv
 touches absent.csv|4|@check absent.csv
-motion examples|4|@check examples
-digest --deck absent.toml examples/play.csv|4|@check --deck absent.toml examples/play.csv
+picture examples|4|@check examples
+picture --deck absent.toml examples/play.csv|4|@check --deck absent.toml examples/play.csv
 picture examples/play.csv|2|ninecheck picture: line 1: the verdict is a yes: there is nothing to draw
 picture --all --at 23 examples/views/several-breaks.csv|2|@line picture: there is no break at record 23
 picture --width 20 examples/late-reply.csv|2|ninecheck picture: line 0: --width has to be a number from 700 on: 20
-digest examples/play.csv examples/play.csv|2|error: unexpected argument 'examples/play.csv' found\n\nUsage: ninecheck digest [OPTIONS] [FILE]\n\nFor more information, try '--help'.
+picture examples/play.csv examples/play.csv|2|error: unexpected argument 'examples/play.csv' found\n\nUsage: ninecheck picture [OPTIONS] [FILE]\n\nFor more information, try '--help'.
 picture --at|2|error: a value is required for '--at' but none was supplied\n\nUsage: ninecheck picture [OPTIONS] [FILE]\n\nFor more information, try '--help'.
 try --hands examples/play.csv|2|error: unexpected argument '--hands' found\n\nUsage: ninecheck try [OPTIONS] [FILE]\n\nFor more information, try '--help'.
-clock --form examples/play.csv|2|error: unexpected argument '--form' found\n\nUsage: ninecheck clock [OPTIONS] [FILE]\n\nFor more information, try '--help'.
 convert hex|2|error: unrecognized export 'hex': sigrok, saleae and log are known\n\nUsage: ninecheck convert <sigrok|saleae|log> [OPTIONS] [FILE]\n\nFor more information, try '--help'.
 convert sigrok --samplerate 1 a b|2|error: unexpected argument 'b' found\n\nUsage: ninecheck convert sigrok --samplerate <N> [OPTIONS] [FILE]\n\nFor more information, try '--help'.
 END
@@ -104,9 +86,8 @@ is_refused_so() {
 # The program refuses an option that it does not know, and the usage is that of the word that was asked for.
 unknown_options() {
     local asked usage
-    for asked in digest delays motion touches picture page json; do
+    for asked in touches picture page; do
         usage="Usage: ninecheck $asked [OPTIONS] [FILE]"
-        [ $asked != json ] || usage='Usage: ninecheck json [check|explain|run|why] [OPTIONS] [FILE]'
         ask $asked --foo examples/play.csv
         judge "$shell, $awk: an unknown option of $asked" [ "$status" = 2 -a ! -s "$work/out" ]
         judge "$shell, $awk: an unknown option of $asked is named" grep -q -e "'--foo'" "$work/err"
@@ -119,43 +100,33 @@ odd_names() {
     local name
     mkdir -p "$work/odd"
     for name in 'a night.csv' '-x.csv' 'rate=30' 'a\tb.csv' "it's.csv" 'ä.csv'; do
-        cp examples/views/session.csv "$work/odd/$name"
-        (cd "$work/odd" && $shell "$nine" digest -- "$name") > "$work/out" 2> "$work/err"
+        cp examples/late-reply.csv "$work/odd/$name"
+        (cd "$work/odd" && $shell "$nine" picture -- "$name") > "$work/out" 2> "$work/err"
         status=$?
-        judge "$shell, $awk: a capture called $name" is_view 1 examples/views/session-digest.txt
+        judge "$shell, $awk: a capture called $name" is_view 1 docs/pictures/late-reply.svg
     done
     mkfifo "$work/odd/pipe"
-    cat examples/views/session.csv > "$work/odd/pipe" &
-    ask digest "$work/odd/pipe"
-    judge "$shell, $awk: a capture that comes only once" is_view 1 examples/views/session-digest.txt
+    cat examples/late-reply.csv > "$work/odd/pipe" &
+    ask picture "$work/odd/pipe"
+    judge "$shell, $awk: a capture that comes only once" is_view 1 docs/pictures/late-reply.svg
     rm -r "$work/odd"
 }
 
 # A reader that has gone, and a full device.
 closed_early() {
-    cp examples/views/hands.csv "$work/in"
-    into_closed $shell "$nine" digest --hands
-    judge "$shell, $awk: a reader that has gone" is_silent
-    case $awk in *--posix) return ;; esac
-    $shell "$nine" digest examples/views/session.csv > /dev/full 2> "$work/err"
+    cp examples/late-reply.csv "$work/in"
+    into_closed $shell "$nine" picture
+    case $awk in
+        *--posix)
+            judge "$shell, $awk: a reader that has gone" [ "$status" = 1 -a ! -s "$work/err" ]
+            return ;;
+        *) judge "$shell, $awk: a reader that has gone" is_silent ;;
+    esac
+    $shell "$nine" picture examples/late-reply.csv > /dev/full 2> "$work/err"
     status=$?
     : > "$work/out"
     judge "$shell, $awk: a full device" [ "$status" = 4 ]
     judge "$shell, $awk: the message of a full device" grep -q "can't be written\$" "$work/err"
-    $shell "$nine" clock examples/ANSWERS > /dev/full 2> "$work/err"
-    status=$?
-    judge "$shell, $awk: a clock on a full device" [ "$status" = 4 ]
-}
-
-# The clock of a report, from a file and from standard input.
-clocks() {
-    echo 'record 4 at 10488: D 10' > "$work/in"
-    ask clock "$work/in"
-    judge "$shell, $awk: a clock" is_text 0 'record 4 at 00:00:00.010488: D 10' ''
-    ask clock --seconds < "$work/in"
-    judge "$shell, $awk: seconds" is_text 0 'record 4 at 0.010488: D 10' ''
-    ask clock absent
-    judge "$shell, $awk: a text that is not there" [ "$status" = 4 ]
 }
 
 # Under each shell with the awk of the machine, and under each awk with the shell of the machine.
@@ -165,7 +136,6 @@ each_way() {
     unknown_options
     odd_names
     closed_early
-    clocks
     judge "$shell, $awk: no file is left" [ -z "$(ls "$TMPDIR")" ]
 }
 awk=awk
@@ -186,7 +156,7 @@ judge 'by a symlink' is_view 1 examples/views/session-digest.txt
 
 # Help: each word has its own, and `help` names it.
 nine=$PWD/ninecheck
-for word in convert split try digest delays motion touches picture page json clock; do
+for word in check explain run why digest delays motion json clock convert split try touches picture page; do
     ask $word --help
     judge "$word --help" [ "$status" = 2 -a ! -s "$work/err" ]
     judge "$word --help has its usage" grep -q "^Usage: ninecheck $word " "$work/out"

@@ -43,13 +43,13 @@ function filled(line,    before, rest, number) {
     return before line
 }
 
-# A line of what is written with each `@MARK` replaced by the number of the record before the mark.
+# A line of what is written with each `@MARK` replaced by the number of the record before the mark, or by the text of this name.
 function numbered(line,    before, mark) {
     before = ""
     while (match(line, /@[a-z0-9]+/)) {
         mark = substr(line, RSTART + 1, RLENGTH - 1)
-        if (!(mark in marks)) stop("no such mark: @" mark)
-        before = before substr(line, 1, RSTART - 1) marks[mark]
+        if (!(mark in marks) && !(mark in named)) stop("no such mark: @" mark)
+        before = before substr(line, 1, RSTART - 1) (mark in marks ? marks[mark] : named[mark])
         line = substr(line, RSTART + RLENGTH)
     }
     return before line
@@ -115,7 +115,7 @@ function put_records(list,    parts, n, i, word, times) {
     }
 }
 
-# Puts a text with its escapes \n, \r, \t and \\.
+# Puts a text with its escapes \n, \r, \t, \b and \\.
 function put_text(text,    i, letter) {
     has_capture = 1
     printf "" > capture
@@ -123,7 +123,7 @@ function put_text(text,    i, letter) {
         letter = substr(text, i, 1)
         if (letter != "\\") { printf "%s", letter > capture; continue }
         letter = substr(text, ++i, 1)
-        printf "%s", (letter == "n" ? "\n" : letter == "r" ? "\r" : letter == "t" ? "\t" : letter) > capture
+        printf "%s", (letter == "n" ? "\n" : letter == "r" ? "\r" : letter == "t" ? "\t" : letter == "b" ? "\357\273\277" : letter) > capture
     }
 }
 
@@ -132,6 +132,7 @@ function take(key, rest) {
     if (key == "case") begin(rest)
     else if (key == "ask") { words = rest; put("words", rest "\n") }
     else if (key == "records") put_records(rest)
+    else if (key == "session") put_session(rest)
     else if (key == "text") put_text(rest)
     else if (key == "status") { status = rest; put("status", rest "\n") }
     else if (key == "out" || key == "err") put(key, numbered(rest) "\n")
@@ -142,6 +143,7 @@ function take(key, rest) {
 /^#/ || /^[ \t]*$/ { next }
 key == "block" { name = $2; if (name in blocks) stop("twice: " name); blocks[name] = substr(rest, length(name) + 2); next }
 key == "case" { make(); first_line = FNR }
+key == "name" { name = $2; rest = substr(rest, length(name) + 2); gsub(/\\n/, "\n", rest); named[name] = rest; next }
 key != "case" && lines == 0 { stop("a line before the first case") }
 key == "each" { each[++eaches] = rest; next }
 key == "with" { with[++withs] = rest; next }
