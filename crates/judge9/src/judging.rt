@@ -210,6 +210,7 @@ impl<'a, R: Read + Drop> Judging<'a, R> {
     }
 
     /// What is known of the deck after the exchange, at an exchange. Takes no memory.
+    #[inline(always)] // else it is handed on through memory
     pub fn knowledge(&self) -> Knowledge
         requires { ShowsExchange self.now.feed }
         ensures { IsKnowledge (Possible self.now.feed.follower.tracker.states) result }

@@ -15,7 +15,6 @@ mod feed;
 mod follower;
 mod judging;
 mod kept;
-mod knowing;
 pub mod laws;
 mod report;
 mod run_judging;
@@ -29,7 +28,6 @@ pub use deck9::{is_run, is_run_of};
 pub use event::{Break, Event};
 pub use judging::Judging;
 pub use kept::Kept;
-pub use knowing::Knowing;
 pub use report::{judge_for, judge_parts_for};
 pub use report9::{
     Beginning, Detail, Extent, JudgeError, RunVerdict, Scope, Totals, Verdict, View,

@@ -64,12 +64,6 @@ would_end Controller Controller came wanted = came + 1 == wanted
 would_end Deck Deck came wanted = came + 1 == wanted
 would_end _ _ came wanted = false
 
--- how many bytes came of a block on this wire, and how many it wants, where more are missing than the one that breaks
-abbrev pub progress_told : Wire → Wire → ℕ → ℕ → List ℕ
-progress_told wire breaking came wanted =
-    if nat_lt came wanted && not (would_end wire breaking came wanted)
-    then (codes ", " ++ decimal came) ++ (codes " of " ++ decimal wanted) ++ codes " bytes" else []
-
 -- of what is open, how many bytes came of the block on this wire, and how many it wants: none where it is a complete command
 abbrev pub came_on : Open → Wire → ℕ
 came_on o Controller = o.asked
@@ -78,6 +72,17 @@ came_on o Deck = o.answered
 abbrev pub wanted_on : Open → Wire → ℕ
 wanted_on o Controller = if is_none o.command then o.wanted else 0
 wanted_on o Deck = o.wanted
+
+-- how many the block on the first of these wires wants, where more are missing than the record that breaks, which is on the second
+abbrev pub still_wanted : Open → Wire → Wire → Option ℕ
+still_wanted o wire breaking =
+    if nat_lt (came_on o wire) (wanted_on o wire) && not (would_end wire breaking (came_on o wire) (wanted_on o wire))
+    then Some (wanted_on o wire) else None
+
+-- how many bytes came, and how many are wanted, where that is told
+abbrev pub progress_told : ℕ → Option ℕ → List ℕ
+progress_told came None = []
+progress_told came (Some wanted) = (codes ", " ++ decimal came) ++ (codes " of " ++ decimal wanted) ++ codes " bytes"
 
 -- what comes before the bytes of a block: the words of a command, where it is complete, and the arrow of a reply
 abbrev pub lead_of : Profile → Open → Wire → List ℕ
@@ -94,7 +99,7 @@ unfoldable pub line_of_open : Profile → ℕ → Open → Wire → Wire → Lis
 line_of_open p at o wire breaking [] = []
 line_of_open p at o wire breaking (r ∷ records) =
     text_of_records (at + 1) (at + length (r ∷ records)) r.time_us ++ (codes ": " ++ lead_of p o wire) ++ hex_bytes [] (bytes_of (r ∷ records))
-    ++ progress_told wire breaking (came_on o wire) (wanted_on o wire) ++ codes "\n"
+    ++ progress_told (came_on o wire) (still_wanted o wire breaking) ++ codes "\n"
 
 abbrev pub letter_of : Wire → List ℕ
 letter_of Controller = codes "C "

@@ -22,6 +22,7 @@ impl TextBuffer for Vec<u8> {
 
     ghost held = { λ v. v.items };
 
+    #[inline(always)] // so that the length of what is put is known, which is mostly a word or a digit
     fn put(&mut self, bytes: &[u8]) -> Result<(), AllocError> {
         self.extend_from_slice(bytes)
     }

@@ -53,6 +53,6 @@ pub use totals::{Totals, put_totals_line};
 pub use verdict::{Beginning, Extent, Scope, Verdict, View};
 pub use verdict_line::{put_no_line, put_verdict_line, put_yes_line};
 pub use why_no::{EndedExchange, WhyNo};
-pub use why_text::break_lines::put_bytes;
+pub use why_text::break_lines::{end_before, put_bytes, still_wanted};
 pub use why_text::put_why_for;
 pub use writing::{WriteFault, write_all, write_some};

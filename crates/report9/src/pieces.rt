@@ -19,6 +19,7 @@ pub fn put_text<B: TextBuffer>(line: &mut B, text: &str) -> Result<(), B::Refusa
 }
 
 /// Puts a number in decimal digits.
+#[inline(always)] // a line of an explanation has three
 pub fn put_number<B: TextBuffer>(line: &mut B, number: u64) -> Result<(), B::Refusal>
     ensures { OnOk result (B.held line.new ≡ B.held line.old ++ decimal number) }
 {

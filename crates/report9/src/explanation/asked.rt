@@ -15,6 +15,7 @@ use deck9::Profile;
 use std::alloc::AllocError;
 
 /// Puts a label and a command: its name, or the first two bytes of one that has none.
+#[inline(always)] // so that the length of the label is known where it is put
 #[tactic(auto, unfolding(crate::specs::Explanation::text_of_command))]
 pub fn put_command(
     line: &mut Vec<u8>,
@@ -32,6 +33,7 @@ pub fn put_command(
 }
 
 /// Puts a label and a reply: an acknowledgement, a NAK with its reasons, or the first two bytes of another block.
+#[inline(always)] // so that the length of the label is known where it is put
 #[tactic(auto, unfolding(crate::specs::Explanation::text_of_reply))]
 pub fn put_reply(line: &mut Vec<u8>, label: &str, reply: &Block) -> Result<(), AllocError>
     ensures { OnOk result (line.new.items ≡ line.old.items ++ (label.now ++ text_of_reply reply.now)) }

@@ -4,7 +4,7 @@ ghost use Rattle.std.specs.Prelude.{◌≡◌, ◌<◌, ◌^◌, ◌++◌, [], O
 ghost use Rattle.block9.specs.Line.{bytes_of};
 ghost use Rattle.report9.specs.Bytes.{hex_bytes};
 ghost use Rattle.report9.specs.WhyText.{came_on, end_before, lead_of, letter_of, limit_told, line_if_ended, line_of_breaking, line_of_open, lines_of_break};
-ghost use Rattle.report9.specs.WhyText.{lines_of_open, progress_told, since_told, sum_told, wanted_on, would_end};
+ghost use Rattle.report9.specs.WhyText.{lines_of_open, progress_told, since_told, still_wanted, sum_told, wanted_on, would_end};
 
 use crate::exchange_bytes::{
     put_command_sent, put_exchange_records, put_records, put_reply_sent, put_words,
@@ -137,15 +137,26 @@ fn put_progress(
     breaking: Wire,
     so_far: &Open,
 ) -> Result<(), AllocError>
-    ensures { OnOk result (line.new.items ≡ line.old.items ++ progress_told wire breaking (came_on so_far.now wire) (wanted_on so_far.now wire)) }
+    ensures { OnOk result (line.new.items ≡ line.old.items ++ progress_told (came_on so_far.now wire) (still_wanted so_far.now wire breaking)) }
 {
-    let (came, wanted) = progress_on(wire, so_far);
-    if came >= wanted || would_end(wire, breaking, came, wanted) {
+    let Some(wanted) = still_wanted(wire, breaking, so_far) else {
         return Ok(());
-    }
+    };
+    let (came, _) = progress_on(wire, so_far);
     put_count(line, ", ", came as u64)?;
     put_count(line, " of ", wanted as u64)?;
     put_text(line, " bytes")
+}
+
+/// How many bytes the open block on a wire wants, where more are missing than the record that breaks; that record is on `breaking`.
+pub fn still_wanted(wire: Wire, breaking: Wire, so_far: &Open) -> Option<usize>
+    ensures { result ≡ still_wanted so_far.now wire breaking }
+{
+    let (came, wanted) = progress_on(wire, so_far);
+    if came >= wanted || would_end(wire, breaking, came, wanted) {
+        return None;
+    }
+    Some(wanted)
 }
 
 /// How many bytes of a block came on a wire, and how many it wants: a command that is complete wants none.
@@ -216,8 +227,9 @@ fn letter_of<'a>(wire: Wire) -> &'a str
     }
 }
 
-/// The time of the record before one that breaks: of the last open one, or of the last of the exchange before.
-fn end_before(tail: &[LineByte], before: &Option<EndedExchange>) -> Option<u64>
+/// The time of the record before one that breaks, in microseconds: of the last open one, or of the last of the exchange before; none
+/// where no record comes before.
+pub fn end_before(tail: &[LineByte], before: &Option<EndedExchange>) -> Option<u64>
     ensures { result ≡ end_before tail.now before.now }
 {
     if let Some(last) = tail.last() {

@@ -6,7 +6,7 @@ use crate::json::told::Told;
 use block9::{Exchange, Open, Reason, records_in};
 use capture9::{LineByte, Wire};
 use deck9::Profile;
-use report9::{EndedExchange, Extent, JudgeError, WhyNo, put_bytes};
+use report9::{Extent, JudgeError, WhyNo, end_before, put_bytes, still_wanted};
 use std::alloc::{AllocError, Global};
 use std::io::Write;
 
@@ -107,8 +107,7 @@ fn write_break<W: Write>(
         let mut line = Line::new(alloc, "open_reply")?;
         put_records(&mut line, last, answered.len(), first.time_us)?;
         line.put_text("reply_bytes", |text| put_bytes(text, answered))?;
-        let is_on_wire = breaking.wire == Wire::Deck;
-        put_length(&mut line, open.answered, open.wanted, is_on_wire)?;
+        put_length(&mut line, still_wanted(Wire::Deck, breaking.wire, open))?;
         line.write(alloc, writer)?;
     }
     let mut line = Line::new(alloc, "breaking_record")?;
@@ -159,25 +158,19 @@ fn put_command<'a>(
 ) -> Result<(), AllocError> {
     let Some(command) = &open.command else {
         line.put_text("command_bytes", |text| put_bytes(text, records))?;
-        return put_length(line, open.asked, open.wanted, wire == Wire::Controller);
+        return put_length(line, still_wanted(Wire::Controller, wire, open));
     };
     line.put_name(profile, command)?;
     line.put_time("command_time", profile.rate, command.time())?;
     line.put_text("command_bytes", |text| put_bytes(text, records))
 }
 
-/// Puts how many bytes a block wants of which so many came, where more are missing than the one that breaks a rule, if that is on
-/// the block's wire.
-fn put_length(
-    line: &mut Line<'_>,
-    came: usize,
-    wanted: usize,
-    is_on_wire: bool,
-) -> Result<(), AllocError> {
-    if came.saturating_add(usize::from(is_on_wire)) < wanted {
-        line.put("block_length", Told::Count(wanted as u64))?;
+/// Puts how many bytes a block wants, where more are missing than the one that breaks a rule.
+fn put_length(line: &mut Line<'_>, wanted: Option<usize>) -> Result<(), AllocError> {
+    match wanted {
+        Some(wanted) => line.put("block_length", Told::Count(wanted as u64)),
+        None => Ok(()),
     }
-    Ok(())
 }
 
 /// Puts the record that breaks a rule, and how long it comes after the one before, where there is one.
@@ -212,14 +205,5 @@ fn put_rule(line: &mut Line<'_>, reason: Reason, sum: u8) -> Result<(), AllocErr
     match reason {
         Reason::WrongSum => line.put_byte("sum", sum),
         _ => Ok(()),
-    }
-}
-
-/// The time of the record before one that breaks a rule: of the last open one, or of the last of the exchange before.
-fn end_before(tail: &[LineByte], before: &Option<EndedExchange>) -> Option<u64> {
-    match (tail.last(), before) {
-        (Some(last), _) => Some(last.time_us),
-        (None, Some(ended)) => Some(ended.end_us),
-        (None, None) => None,
     }
 }
