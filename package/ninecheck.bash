@@ -15,6 +15,7 @@ _ninecheck_options() {
         page) echo '--hands --sync --rate --deck --help' ;;
         try) echo '--all --sync --deck --help' ;;
         clock) echo '--seconds --help' ;;
+        info) echo '--sync --rate --help' ;;
         split) echo '--to --rows --help' ;;
         sigrok) echo '--samplerate --from --to --help' ;;
         saleae) echo '--controller --deck --from --to --help' ;;
@@ -24,7 +25,7 @@ _ninecheck_options() {
 
 _ninecheck() {
     local word=${COMP_WORDS[COMP_CWORD]} before=${COMP_WORDS[COMP_CWORD - 1]} asked=${COMP_WORDS[1]}
-    local words='check explain run why convert split try digest delays motion touches picture page json clock help'
+    local words='check explain run why convert split try digest delays motion touches picture page json clock info help'
     if [ "$COMP_CWORD" = 1 ]; then
         mapfile -t COMPREPLY < <(compgen -W "$words --help --version" -- "$word")
         return

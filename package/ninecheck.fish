@@ -1,6 +1,6 @@
 # Completes the words of ninecheck in fish.
 set -l judging check explain run why digest delays motion touches picture page json
-set -l others convert split try clock help
+set -l others convert split try clock info help
 function __ninecheck_asks
     __fish_seen_subcommand_from $argv; and not __fish_seen_subcommand_from help
 end
@@ -20,6 +20,7 @@ for line in \
     'page|The whole session as one page' \
     'json|A JSON object for each line of a report' \
     'clock|A text with its times as a clock' \
+    'info|What a capture says of itself' \
     'help|What can be asked for'
     set -l part (string split '|' $line)
     complete -c ninecheck -n __fish_use_subcommand -f -a $part[1] -d $part[2]
@@ -27,14 +28,14 @@ end
 complete -c ninecheck -n '__fish_seen_subcommand_from help' -f -a "$judging $others"
 complete -c ninecheck -n '__ninecheck_asks convert; and not __fish_seen_subcommand_from sigrok saleae log' -f -a 'sigrok saleae log'
 complete -c ninecheck -n "__ninecheck_asks $judging; and not __fish_seen_subcommand_from touches" -l hands -d "Somebody may have touched the deck's panel"
-complete -c ninecheck -n "__ninecheck_asks $judging try" -l sync -d 'The capture may begin inside a command or a reply'
+complete -c ninecheck -n "__ninecheck_asks $judging try info" -l sync -d 'The capture may begin inside a command or a reply'
 complete -c ninecheck -n "__ninecheck_asks check explain why digest delays motion picture json try; and not __fish_seen_subcommand_from run" -l all -d 'Go on after each break'
 complete -c ninecheck -n "__ninecheck_asks check explain why digest delays motion picture json; and not __fish_seen_subcommand_from run" -l line-buffered -d 'Write each line as soon as it is complete'
 complete -c ninecheck -n '__ninecheck_asks explain digest delays motion json; and not __fish_seen_subcommand_from check run why' -l bytes -d 'Write each exchange with its bytes, as why does'
 complete -c ninecheck -n '__ninecheck_asks digest delays motion json; and not __fish_seen_subcommand_from run' -l from -x -d 'Show what comes at this time or later'
 complete -c ninecheck -n '__ninecheck_asks digest delays motion json; and not __fish_seen_subcommand_from run' -l to -x -d 'Show what comes before this time'
 complete -c ninecheck -n '__ninecheck_asks json; and not __fish_seen_subcommand_from check explain run why' -a 'check explain run why' -d 'The report that the objects are made of'
-complete -c ninecheck -n "__ninecheck_asks $judging" -l rate -x -a '24 25 30 29.97df' -d 'The frame rate of the machine, 25 if left out'
+complete -c ninecheck -n "__ninecheck_asks $judging info" -l rate -x -a '24 25 30 29.97df' -d 'The frame rate of the machine, 25 if left out'
 complete -c ninecheck -n "__ninecheck_asks $judging try" -l deck -r -F -d 'A sheet of what this deck does of its own'
 complete -c ninecheck -n '__ninecheck_asks why; and not __fish_seen_subcommand_from json' -l quiet -d 'Without the line that says what to ask next'
 complete -c ninecheck -n '__ninecheck_asks picture' -l at -x -d 'The record of the break'

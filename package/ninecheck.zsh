@@ -17,6 +17,7 @@ verbs=(
     'page:the whole session as one page'
     'json:a JSON object for each line of a report'
     'clock:a text with its times as a clock'
+    'info:what a capture says of itself'
     'help:what can be asked for'
 )
 exports=('sigrok:what sigrok-cli prints' 'saleae:the CSV of Saleae Logic' 'log:a serial log of two ports')
@@ -70,6 +71,7 @@ case $asked in
             '--at[the record of the break]:record:' '--width[the greatest width in pixels]:pixels:') ;;
     try) options=($all $sync $sheet) ;;
     clock) options=('--seconds[write the times in seconds]') ;;
+    info) options=($sync $rate) ;;
     split) options=('--to[how the parts are called]:name:_files' '--rows[the most rows of a part]:rows:') ;;
     sigrok) options=('--samplerate[samples a second]:samples:' $from $to) ;;
     saleae) options=('--controller[the analyzer of the controller]:analyzer:' '--deck[the analyzer of the deck]:analyzer:' $from $to) ;;

@@ -129,7 +129,7 @@ for table in tests/cases/*.txt; do
             case $(cat "$folder/status") in 0 | 1 | 3) ;; *) continue ;; esac
             # shellcheck disable=SC2086
             case $words in
-                clock*) ;;
+                clock* | info*) ;;
                 digest* | delays* | motion* | json*) judge "$name: $(cat "$folder/name"), $words, as check ends" ends_as_check $words ;;
                 *) judge "$name: $(cat "$folder/name"), $words, and what else can be asked" ends_so $words ;;
             esac

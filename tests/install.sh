@@ -148,7 +148,7 @@ while IFS='|' read -r typed in_zsh in_fish; do
     offered_in_fish "$root" "$typed"
     expect "fish: $typed" 0 "$in_fish" ''
 done <<'END'
-ninecheck |check clock convert delays digest explain help json motion page picture run split touches try why|check clock convert delays digest explain help json motion page picture run split touches try why
+ninecheck |check clock convert delays digest explain help info json motion page picture run split touches try why|check clock convert delays digest explain help info json motion page picture run split touches try why
 ninecheck e|explain|explain
 ninecheck -|--help --version -V -h|--help --version -V -h
 ninecheck why -|--all --deck --hands --help --line-buffered --quiet --rate --sync -h|--all --deck --hands --help --line-buffered --quiet --rate --sync -h
@@ -157,6 +157,7 @@ ninecheck digest -|--all --bytes --deck --from --hands --help --line-buffered --
 ninecheck json run -|--deck --hands --help --rate --sync -h|--deck --hands --help --rate --sync -h
 ninecheck json why -|--all --deck --from --hands --help --line-buffered --rate --sync --to -h|--all --deck --from --hands --help --line-buffered --rate --sync --to -h
 ninecheck clock --s|--seconds|--seconds
+ninecheck info -|--help --rate --sync -h|--help --rate --sync -h
 ninecheck picture --w|--width|--width
 ninecheck convert |log saleae sigrok|log saleae sigrok
 ninecheck convert log --unit |ms us|ms us
@@ -167,7 +168,7 @@ ninecheck check --rate |24 25 29.97df 30|24 25 29.97df 30
 ninecheck run --rate 2|24 25 29.97df|24 25 29.97df
 ninecheck explain capture.csv --rate 3|30|30
 ninecheck check --deck decks/nine|nine-pin-commands.toml|decks/nine-pin-commands.toml
-ninecheck help |check clock convert delays digest explain help json motion page picture run split touches try why|check clock convert delays digest explain help json motion page picture run split touches try why
+ninecheck help |check clock convert delays digest explain help info json motion page picture run split touches try why|check clock convert delays digest explain help info json motion page picture run split touches try why
 ninecheck run examples/play|play.csv|examples/play.csv
 END
 
@@ -219,7 +220,7 @@ complete_words() {
 complete_words ninecheck e
 expect 'a verb is completed' 0 'explain' ''
 complete_words ninecheck ''
-expect 'verbs are offered' 0 'check explain run why convert split try digest delays motion touches picture page json clock help --help --version' ''
+expect 'verbs are offered' 0 'check explain run why convert split try digest delays motion touches picture page json clock info help --help --version' ''
 complete_words ninecheck run --
 expect 'options are offered' 0 '--hands --sync --rate --deck --help' ''
 complete_words ninecheck explain --

@@ -28,7 +28,7 @@ PARTS = [
         [("judge9", "judge_with_run_for"), ("deck9", "is_run_of"), ("report9", "write_run_for")],
         [("judge9", "judge_with_run"), ("deck9", "is_run"), ("report9", "write_run")],
     ),
-    ("The events of a judging", [("judge9", "Judging::new"), ("judge9", "Judging::next"), ("judge9", "Knowing::follow")], []),
+    ("The events of a judging", [("judge9", "Judging::new"), ("judge9", "Judging::next"), ("judge9", "Judging::knowledge")], []),
     ("The program", [("program9", "run_program"), ("program9", "End::status"), ("program9", "Message::fmt")], []),
 ]
 PAGE = "docs/THEOREM.md"

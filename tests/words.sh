@@ -156,7 +156,7 @@ judge 'by a symlink' is_view 1 examples/views/session-digest.txt
 
 # Help: each word has its own, and `help` names it.
 nine=$PWD/ninecheck
-for word in check explain run why digest delays motion json clock convert split try touches picture page; do
+for word in check explain run why digest delays motion json clock info convert split try touches picture page; do
     ask $word --help
     judge "$word --help" [ "$status" = 2 -a ! -s "$work/err" ]
     judge "$word --help has its usage" grep -q "^Usage: ninecheck $word " "$work/out"

@@ -20,12 +20,12 @@ use Rattle.judge9.specs.Judging.{Answers}
 use Rattle.judge9.specs.Report.{Told, by_totals, by_verdict}
 use Rattle.judge9.specs.RunVerdict.{IsJudgedRun, verdict_of}
 use Rattle.words9.specs.declared.task.Report.{Report}
-use Rattle.words9.specs.declared.task.Report.TheVariants.{Clock, JsonRun, Made, Parts, Run, ToBreak}
+use Rattle.words9.specs.declared.task.Report.TheVariants.{Clock, Info, JsonRun, Made, Parts, Run, ToBreak}
 use Rattle.view9.specs.declared.clock.ClockFault.{ClockFault}
 use Rattle.view9.specs.declared.seen.Ending.{Ending}
 use Rattle.program9.specs.declared.ending.Outcome.{Outcome}
 use Rattle.program9.specs.declared.judging.Job.{Job}
-use Rattle.program9.specs.Outcome.{outcome_in_parts, outcome_made, outcome_of, outcome_rewritten}
+use Rattle.program9.specs.Outcome.{outcome_in_parts, outcome_made, outcome_of, outcome_rewritten, outcome_told}
 use Rattle.program9.specs.Output.{IsFirstPart}
 
 -- of a judging that answered `judged`, after which the writer was to hold `all`: the result is that answer, and
@@ -85,6 +85,10 @@ EndsJsonRun end = (result : Result Verdict JudgeError) × (end ≡ outcome_of re
 abbrev pub EndsRewritten : Outcome → Type 0
 EndsRewritten end = (result : Result Unit ClockFault) × (end ≡ outcome_rewritten result)
 
+-- the same of what a capture says of itself
+abbrev pub EndsInfo : Outcome → Type 0
+EndsInfo end = (result : Result Unit JudgeError) × (end ≡ outcome_told result)
+
 -- a capture was judged and told by this report, and this is the end
 abbrev pub EndsJudged : Report → Job → Option (List ℕ) → Option (List ℕ) → Outcome → Option (List ℕ) → Type 0
 EndsJudged Run job capture old end now = EndsAs (IsJudgedWithRun job capture old) outcome_of end now
@@ -93,3 +97,4 @@ EndsJudged (Parts view) job capture old end now = EndsAs (IsJudgedInParts view j
 EndsJudged (Made made extent) job capture old end now = EndsMade end
 EndsJudged JsonRun job capture old end now = EndsJsonRun end
 EndsJudged (Clock form) job capture old end now = EndsRewritten end
+EndsJudged Info job capture old end now = EndsInfo end

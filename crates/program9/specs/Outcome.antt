@@ -62,6 +62,11 @@ outcome_rewritten (Err fault.Read) = record { status = 4; message = message.Text
 outcome_rewritten (Err fault.Write) = record { status = 4; message = message.WriteFault }
 outcome_rewritten (Err fault.OutOfMemory) = record { status = 5; message = message.NoMemory }
 
+-- after what a capture says of itself was told: the status is 0; after a refusal the end is the same as that of any judging
+abbrev pub outcome_told : Result Unit JudgeError → Outcome
+outcome_told (Ok told) = record { status = 0; message = message.Nothing }
+outcome_told (Err e) = outcome_refused e
+
 -- what is said, but of a write fault nothing
 abbrev pub unless_write_fault : Message → Message
 unless_write_fault message.WriteFault = message.Nothing

@@ -8,8 +8,8 @@ ghost use Rattle.program9.specs.Judging.{EndsJudged, HandsOn, IsJudgedWithRun, W
 
 use crate::buffered::Buffered;
 use crate::ending::Outcome;
-use crate::making::{make, rewrite_times};
-use crate::status::{outcome, outcome_in_parts, outcome_made, outcome_rewritten};
+use crate::making::{make, rewrite_times, tell_info};
+use crate::status::{outcome, outcome_in_parts, outcome_made, outcome_rewritten, outcome_told};
 use deck9::Profile;
 use judge9::{judge_for, judge_parts_for, judge_with_run_for};
 use report9::{JudgeError, RunVerdict, Verdict, write_run_for};
@@ -68,10 +68,15 @@ pub fn judge_and_flush<R: Read + Drop, W: Write + Drop>(
             let told = rewrite_times(alloc, reader, out, form);
             outcome_rewritten(&flushed(out, told))
         }
+        Report::Info => {
+            let told = tell_info(alloc, reader, out, job);
+            outcome_told(&ended(out, told))
+        }
     }
 }
 
 /// Judges the capture to its first break, and writes its run as JSON where there is one.
+#[inline(never)] // else the loops over records of the reports are compiled with it in one function, and worse
 fn tell_json_run<R: Read + Drop, W: Write>(
     alloc: Global,
     reader: R,

@@ -18,4 +18,4 @@ pub use buffered::Buffered;
 pub use ending::{End, Message, Outcome, Unopened, UnreadSheet, WhyUnopened};
 pub use judging::{Job, judge_and_flush};
 pub use program::run_program;
-pub use status::{outcome, outcome_in_parts, outcome_made, outcome_rewritten};
+pub use status::{outcome, outcome_in_parts, outcome_made, outcome_rewritten, outcome_told};

@@ -1,6 +1,7 @@
 //! What is made of a capture's events, or of a text, beside the reports.
 
 use crate::judging::Job;
+use info9::write_info;
 use report9::{Extent, JudgeError, Scope, TimeForm};
 use std::alloc::Global;
 use std::io::{BufReader, Read, Write};
@@ -10,6 +11,7 @@ use view9::{
 use words9::Made;
 
 /// Judges the capture that the reader gives, so far, and writes what is made of it: how the judging ends.
+#[inline(never)] // else the loops over records of the reports are compiled with those of the views in one function, and worse
 pub(crate) fn make<R: Read + Drop, W: Write>(
     alloc: Global,
     reader: R,
@@ -31,7 +33,19 @@ pub(crate) fn make<R: Read + Drop, W: Write>(
     }
 }
 
+/// Writes what the capture that the reader gives says of itself.
+#[inline(never)] // as above
+pub(crate) fn tell_info<R: Read + Drop, W: Write>(
+    alloc: Global,
+    reader: R,
+    writer: &mut W,
+    job: &Job,
+) -> Result<(), JudgeError> {
+    write_info(alloc, reader, writer, job.profile.rate, job.asked.beginning)
+}
+
 /// Writes the text that the reader gives with its times in this form.
+#[inline(never)] // as above
 pub(crate) fn rewrite_times<R: Read + Drop, W: Write>(
     alloc: Global,
     reader: R,

@@ -1,6 +1,6 @@
 //! From the result of a judging to how the program ends.
 ghost use Rattle.std.specs.Prelude.{◌≡◌};
-ghost use Rattle.program9.specs.Outcome.{outcome_in_parts, outcome_made, outcome_of, outcome_refused, outcome_rewritten};
+ghost use Rattle.program9.specs.Outcome.{outcome_in_parts, outcome_made, outcome_of, outcome_refused, outcome_rewritten, outcome_told};
 
 use crate::ending::{Message, Outcome};
 use capture9::CaptureKind;
@@ -60,6 +60,17 @@ pub fn outcome_rewritten(told: &Result<(), ClockFault>) -> Outcome
         Err(ClockFault::Read) => Outcome::new(4, Message::TextFault),
         Err(ClockFault::Write) => Outcome::new(4, Message::WriteFault),
         Err(ClockFault::OutOfMemory) => Outcome::new(5, Message::NoMemory),
+    }
+}
+
+/// How the program ends after what a capture says of itself was told: with status 0, or after a refusal as [`outcome`] says. Takes
+/// no memory.
+pub fn outcome_told(told: &Result<(), JudgeError>) -> Outcome
+    ensures { result ≡ outcome_told told.now }
+{
+    match told {
+        Ok(()) => Outcome::new(0, Message::Nothing),
+        Err(refusal) => outcome_refused(refusal),
     }
 }
 

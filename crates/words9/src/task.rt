@@ -38,6 +38,8 @@ pub enum Verb {
     JsonWhy,
     /// Writes the times of a text as a clock: `clock`.
     Clock,
+    /// Tells what a capture says of itself: `info`.
+    Info,
 }
 
 /// What is made of the events of a capture, beside the program's own reports.
@@ -68,6 +70,8 @@ pub enum Report {
     JsonRun,
     /// A text, with its times in this form. Nothing is judged.
     Clock(TimeForm),
+    /// What the capture says of itself. Nothing is judged.
+    Info,
 }
 
 /// What is asked of a capture, whatever its deck is taken for.

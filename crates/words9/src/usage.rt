@@ -3,7 +3,7 @@ ghost use Rattle.std.specs.Prelude.{◌≡◌, IfOk, false, map};
 ghost use Rattle.std.specs.String.{string_bytes};
 ghost use Rattle.clap.specs.Words.{FailsBy, app_of, fault_of, rule_of, subcommand_of, subcommand_rows_of, with_subcommand};
 ghost use Rattle.clap.specs.declared.builder.command.Command.TheViews.{out-Command as fields_of};
-ghost use Rattle.words9.specs.Words.{AreRateNames, all_rule, app_for, bytes_rule, clock_app, deck_rule, from_rule, hands_rule, line_buffered_rule, name_of, plain_app_for, program, rate_rule, seconds_rule, sync_rule, to_rule, top, with_all_rules, with_bytes_rule, with_stretch_rules};
+ghost use Rattle.words9.specs.Words.{AreRateNames, all_rule, app_for, bytes_rule, clock_app, deck_rule, file_rule, from_rule, hands_rule, info_app_for, line_buffered_rule, name_of, plain_app_for, program, rate_rule, seconds_rule, sync_rule, to_rule, top, with_all_rules, with_bytes_rule, with_stretch_rules};
 
 use crate::task::{VERSION_LINE, Verb};
 use clap::{Arg, ArgAction, ArgMatches, Command, Error};
@@ -50,7 +50,8 @@ fn whole<'a>(alloc: Global, rates: &'a [&'a str]) -> Result<Command<'a>, AllocEr
     let command = with_verb(alloc, command, Verb::JsonExplain, rates)?;
     let command = with_verb(alloc, command, Verb::JsonRun, rates)?;
     let command = with_verb(alloc, command, Verb::JsonWhy, rates)?;
-    with_verb(alloc, command, Verb::Clock, rates)
+    let command = with_verb(alloc, command, Verb::Clock, rates)?;
+    with_verb(alloc, command, Verb::Info, rates)
 }
 
 /// A command with the subcommand of a verb.
@@ -87,12 +88,14 @@ fn subcommand<'a>(
     ensures app { IfOk result (λ c. app_of c ≡ app_for rates.entry verb) }
     ensures local { IfOk result (λ c. (fields_of c).has_globals ≡ false) }
 {
-    if let Verb::Clock = verb {
-        return clock(alloc);
+    match verb {
+        Verb::Clock => return clock(alloc),
+        Verb::Info => return info(alloc, rates),
+        _ => {}
     }
     let command = plain_subcommand(alloc, verb, rates)?;
     match verb {
-        Verb::Run | Verb::JsonRun | Verb::Clock => Ok(command),
+        Verb::Run | Verb::JsonRun | Verb::Clock | Verb::Info => Ok(command),
         Verb::Check | Verb::Why => with_all(alloc, command),
         Verb::JsonCheck | Verb::JsonWhy => with_stretch(alloc, with_all(alloc, command)?),
         Verb::Explain => with_all(alloc, with_bytes(alloc, command)?),
@@ -138,7 +141,20 @@ fn clock<'a>(alloc: Global) -> Result<Command<'a>, AllocError>
     Ok(command)
 }
 
-/// A subcommand with what each has: its file, and the options of the panel, of the capture's beginning, of the rate and of the
+/// The subcommand that tells what a capture says of itself.
+fn info<'a>(alloc: Global, rates: &'a [&'a str]) -> Result<Command<'a>, AllocError>
+    ensures app { IfOk result (λ c. app_of c ≡ info_app_for rates.entry) }
+    ensures local { IfOk result (λ c. (fields_of c).has_globals ≡ false) }
+{
+    let command = Command::new(alloc, name_of(Verb::Info)).about(about(Verb::Info));
+    let command = command
+        .arg(capture_file(alloc))?
+        .arg(sync(alloc))?
+        .arg(rate(alloc, rates))?;
+    Ok(command)
+}
+
+/// A subcommand with what each has that judges: its file, and the options of the panel, of the capture's beginning, of the rate and of the
 /// deck's sheet.
 fn plain_subcommand<'a>(
     alloc: Global,
@@ -148,17 +164,24 @@ fn plain_subcommand<'a>(
     ensures app { IfOk result (λ c. app_of c ≡ plain_app_for rates.entry verb) }
     ensures local { IfOk result (λ c. (fields_of c).has_globals ≡ false) }
 {
-    let file = Arg::new(alloc, "FILE").help(
-        "The capture of both wires of the RS-422 line, as CSV; standard input if left out",
-    );
     let command = Command::new(alloc, name_of(verb)).about(about(verb));
     let command = command
-        .arg(file)?
+        .arg(capture_file(alloc))?
         .arg(hands(alloc))?
         .arg(sync(alloc))?
         .arg(rate(alloc, rates))?
         .arg(deck(alloc))?;
     Ok(command)
+}
+
+/// The file of a capture.
+fn capture_file<'a>(alloc: Global) -> Arg<'a>
+    ensures rule { rule_of result ≡ file_rule }
+    ensures local { result.global ≡ false }
+{
+    Arg::new(alloc, "FILE").help(
+        "The capture of both wires of the RS-422 line, as CSV; standard input if left out",
+    )
 }
 
 /// The option of the panel.
@@ -294,6 +317,7 @@ fn name_of<'a>(verb: Verb) -> &'a str
         Verb::JsonRun => "json run",
         Verb::JsonWhy => "json why",
         Verb::Clock => "clock",
+        Verb::Info => "info",
     }
 }
 
@@ -320,5 +344,7 @@ fn about<'a>(verb: Verb) -> &'a str {
         Verb::JsonWhy => "Write a JSON object for each line of why",
         Verb::Clock =>
             "Write the times of a text as a clock: of a report, of a digest or of a motion",
+        Verb::Info =>
+            "Tell what the capture says of itself, and what to look at before anybody is blamed; nothing is judged",
     }
 }

@@ -177,6 +177,7 @@ fn report_of(verb: Verb, all: bool, bytes: bool, seconds: bool) -> Report
         Verb::JsonRun => Report::JsonRun,
         Verb::Clock if seconds => Report::Clock(TimeForm::Seconds),
         Verb::Clock => Report::Clock(TimeForm::Clock),
+        Verb::Info => Report::Info,
     }
 }
 
@@ -244,6 +245,7 @@ fn verb_of(name: &str) -> Option<Verb>
         "json run" => Some(Verb::JsonRun),
         "json why" => Some(Verb::JsonWhy),
         "clock" => Some(Verb::Clock),
+        "info" => Some(Verb::Info),
         _ => None,
     }
 }

@@ -1,13 +1,12 @@
 use Rattle.std.proofs.Common.{rules, ◌≡◌, ◌∙◌, ap₂}
-use Rattle.clap.specs.Words.{app_of, new_app, rule_of, with_rule}
-use Rattle.words9.specs.Words.{file_rule, name_of}
+use Rattle.clap.specs.Words.{app_of, new_app, with_rule}
+use Rattle.words9.specs.Words.{name_of}
 use Rattle.words9.proofs.usage.plain_subcommand.Goals as goal
 
 pub returns-clause-app : goal.returns-clause-app
 returns-clause-app c =
     let bare : app_of c.about-command.result ≡ new_app (name_of c.args.verb) = search rules in
-    let file : rule_of c.help-file.result ≡ file_rule = search rules in
-    let with_file = c.in_ok-arg.ensures.shape (search rules) ∙ ap₂ with_rule bare file in
+    let with_file = c.in_ok-arg.ensures.shape c.capture_file.ensures.local ∙ ap₂ with_rule bare c.capture_file.ensures.rule in
     let with_hands = c.in_ok-arg-2.ensures.shape c.hands.ensures.local ∙ ap₂ with_rule with_file c.hands.ensures.rule in
     let with_sync = c.in_ok-arg-3.ensures.shape c.sync.ensures.local ∙ ap₂ with_rule with_hands c.sync.ensures.rule in
     let with_rate = c.in_ok-arg-4.ensures.shape c.rate.ensures.local ∙ ap₂ with_rule with_sync c.rate.ensures.rule in

@@ -1,0 +1,32 @@
+//! What a capture says of itself before anybody is blamed: its facts, and signs of what is wrong with the tap, the rate or the wires.
+//!
+//! [`write_info`] reads a capture and writes both. [`Signs`] takes one record after another and lists the signs, for what judges the
+//! same capture besides. What a wire carries is cut into blocks by the wire alone, so that nothing here depends on a verdict.
+#![tactic(auto)]
+
+mod cutter;
+mod delays;
+mod facts;
+mod fits;
+mod info;
+mod label;
+mod line;
+mod lost;
+mod place;
+mod rates;
+mod running;
+mod sign;
+mod signs;
+mod silence;
+mod step;
+#[cfg(test)]
+mod tests;
+mod text;
+mod told;
+mod turns;
+
+pub use info::write_info;
+pub use place::Place;
+pub use rates::{Fitting, RateSeen};
+pub use sign::{Seeming, Sign};
+pub use signs::Signs;

@@ -1,0 +1,68 @@
+//! Which frame rates fit the times that are told.
+
+use crate::place::Place;
+use crate::running::Running;
+use crate::sign::{Seeming, Sign};
+use crate::told::Told;
+use tc25::Rate;
+
+/// What speaks against the rate that is asked with.
+#[derive(Clone, Copy, Debug, PartialEq, Eq)]
+pub enum RateSeen {
+    /// This frame of a second is told, which the rate has not.
+    Frame(u32),
+    /// So many frames a second elapse, in thousandths.
+    Elapsed(u64),
+    /// So many times have the flag of drop frame.
+    Flags(u64),
+    /// So many times have frame 00 or 01 of a minute that drop frame has not.
+    Undropped(u64),
+}
+
+/// The rates that fit.
+#[derive(Clone, Copy, Debug, PartialEq, Eq)]
+pub enum Fitting {
+    /// This one.
+    One(Rate),
+    /// 30 frames a second, with drop frame or without.
+    Thirty,
+}
+
+/// The sign that another rate fits than the one that is asked with.
+pub(crate) fn sign_of_rate(asked: Rate, told: &Told, running: &Running) -> Option<Sign> {
+    let fits = fitting_of(asked, told, running)?;
+    let is_asked = match fits {
+        Fitting::One(rate) => rate == asked,
+        Fitting::Thirty => matches!(asked, Rate::Fps30 | Rate::DropFrame),
+    };
+    if is_asked {
+        return None;
+    }
+    let (at, seen) = seen_against(fits, told, running);
+    let what = Seeming::WrongRate { asked, seen, fits };
+    Some(Sign { at: at?, what })
+}
+
+/// The rates that fit, as far as the times tell: frames that elapse say more than the greatest one, which may be an invalid time.
+fn fitting_of(asked: Rate, told: &Told, running: &Running) -> Option<Fitting> {
+    let is_flagged = told.times >= 3 && told.flagged > told.times / 2;
+    match (running.in_second(), told.greatest) {
+        (Some(24), _) => Some(Fitting::One(Rate::Fps24)),
+        (Some(25), _) => Some(Fitting::One(Rate::Fps25)),
+        (None, 24) if asked == Rate::Fps24 => Some(Fitting::One(Rate::Fps25)),
+        (None, ..25) if !is_flagged => None,
+        _ if told.undropped > 0 => Some(Fitting::One(Rate::Fps30)),
+        _ if is_flagged => Some(Fitting::One(Rate::DropFrame)),
+        _ => Some(Fitting::Thirty),
+    }
+}
+
+/// What speaks against a rate that is none of these, and where.
+fn seen_against(fits: Fitting, told: &Told, running: &Running) -> (Option<Place>, RateSeen) {
+    match (told.lacking, fits) {
+        (Some((at, 0 | 1)), _) => (Some(at), RateSeen::Undropped(told.undropped)),
+        (Some((at, frame)), _) => (Some(at), RateSeen::Frame(frame)),
+        (None, Fitting::One(Rate::DropFrame)) => (told.first, RateSeen::Flags(told.flagged)),
+        (None, _) => (running.first, RateSeen::Elapsed(running.per_second())),
+    }
+}

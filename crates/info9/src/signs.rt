@@ -1,0 +1,176 @@
+//! What a capture shows of itself, one record after another.
+
+use crate::line::Line;
+use crate::place::{Place, Seen};
+use crate::rates::sign_of_rate;
+use crate::sign::{Seeming, Sign};
+use crate::step::Step;
+use crate::turns::Turns;
+use capture9::{LineByte, Wire};
+use report9::Beginning;
+use tc25::Rate;
+
+/// In more than so many blocks bytes are too close, where a tap collects them.
+const HANDFUL: u64 = 5;
+
+/// From this step on times are coarse, in microseconds.
+const COARSE_US: u64 = 1_000;
+
+/// The records of a capture so far, and what they show. Its size is fixed: it takes no memory as it goes.
+#[derive(Drop)]
+pub struct Signs {
+    pub(crate) rate: Rate,
+    beginning: Beginning,
+    /// The first record, and its wire.
+    pub(crate) first: Option<(Place, Wire)>,
+    pub(crate) last: Place,
+    pub(crate) step: Step,
+    pub(crate) controller: Line,
+    pub(crate) deck: Line,
+    pub(crate) turns: Turns,
+    /// Whether a whole command begins with record 1.
+    is_begun: bool,
+}
+
+impl Signs {
+    /// Of no record yet. Times are read at the rate; the beginning is that of the capture's judging, with or without `--sync`.
+    pub fn new(rate: Rate, beginning: Beginning) -> Signs {
+        Signs {
+            rate,
+            beginning,
+            first: None,
+            last: Place::NONE,
+            step: Step::new(),
+            controller: Line::new(Wire::Controller),
+            deck: Line::new(Wire::Deck),
+            turns: Turns::new(rate),
+            is_begun: false,
+        }
+    }
+
+    /// Takes the capture's next record.
+    pub fn take(&mut self, record: &LineByte) {
+        let place = Place {
+            record: self.last.record.saturating_add(1),
+            time_us: record.time_us,
+        };
+        self.first = self.first.or(Some((place, record.wire)));
+        self.last = place;
+        self.step.take(record.time_us);
+        let seen = Seen {
+            place,
+            byte: record.byte,
+        };
+        match record.wire {
+            Wire::Controller => self.take_controller(seen),
+            Wire::Deck => self.take_deck(seen),
+        }
+    }
+
+    /// Takes a byte of the controller.
+    fn take_controller(&mut self, seen: Seen) {
+        if let Some(whole) = self.controller.take(seen) {
+            self.is_begun |= whole.first.record == 1;
+            self.deck.cutter.take_other(whole.first);
+            self.turns.take_command(&whole);
+        }
+    }
+
+    /// Takes a byte of the deck.
+    fn take_deck(&mut self, seen: Seen) {
+        self.turns.awaited.take_deck();
+        if let Some(whole) = self.deck.take(seen) {
+            self.controller.cutter.take_other(whole.first);
+            self.turns.take_reply(&whole);
+        }
+    }
+
+    /// The signs that the records so far show. Where the wires are swapped, what has to know which is whose is not looked for.
+    pub fn signs(&self) -> [Option<Sign>; 9] {
+        let swapped = self.wires_swapped();
+        let told = self.coarse_times();
+        let close = self.collects_bytes().filter(|_| told.is_none());
+        if swapped.is_some() {
+            return [swapped, close, told, None, None, None, None, None, None];
+        }
+        let (turns, rate) = (&self.turns, self.rate);
+        [
+            self.begins_inside(),
+            close,
+            told,
+            sign_of_rate(rate, &turns.told, &turns.running),
+            turns.awaited.sign(),
+            self.lost_bytes(),
+            turns.delays.sign(),
+            turns.fits.sign(),
+            None,
+        ]
+    }
+
+    /// Both wires carry the other's groups, and more of them than their own.
+    fn wires_swapped(&self) -> Option<Sign> {
+        let (controller, deck) = (&self.controller, &self.deck);
+        let is_swapped = controller.strangers > controller.own() && deck.strangers > deck.own();
+        let what = Seeming::WiresSwapped {
+            controller: controller.strangers,
+            deck: deck.strangers,
+        };
+        let at = earlier(controller.first_stranger, deck.first_stranger)?;
+        is_swapped.then_some(Sign { at, what })
+    }
+
+    /// Record 1 is the deck's, or no whole command begins there. It may be one that is still open at the end.
+    fn begins_inside(&self) -> Option<Sign> {
+        let (at, wire) = self.first?;
+        let is_open = self.controller.cutter.is_open_from_start();
+        let may_begin = wire == Wire::Controller && (self.is_begun || is_open);
+        let is_asked = self.beginning == Beginning::FirstRecord;
+        let what = Seeming::BeginsInside;
+        (is_asked && !may_begin).then_some(Sign { at, what })
+    }
+
+    /// Bytes of blocks are closer than a byte lasts.
+    fn collects_bytes(&self) -> Option<Sign> {
+        let (controller, deck) = (&self.controller, &self.deck);
+        let blocks = controller.close.saturating_add(deck.close);
+        let least_us = controller.least_us.min(deck.least_us);
+        let what = Seeming::CollectsBytes { least_us, blocks };
+        let at = earlier(controller.first_close, deck.first_close)?;
+        (blocks > HANDFUL).then_some(Sign { at, what })
+    }
+
+    /// The step of the times is a millisecond or more.
+    fn coarse_times(&self) -> Option<Sign> {
+        let step_us = self.step.us()?;
+        let (at, _) = self.first?;
+        let what = Seeming::CoarseTimes { step_us };
+        (step_us >= COARSE_US).then_some(Sign { at, what })
+    }
+
+    /// Blocks lack a byte.
+    fn lost_bytes(&self) -> Option<Sign> {
+        let (controller, deck) = (self.controller.cutter.lost(), self.deck.cutter.lost());
+        let blocks = controller.blocks.saturating_add(deck.blocks);
+        let lost = match (controller.first, deck.first) {
+            (Some(one), Some(another)) if another.block.record < one.block.record => another,
+            (Some(one), _) => one,
+            (None, another) => another?,
+        };
+        let (at, byte, after) = (lost.block, lost.byte, lost.after);
+        let what = Seeming::LostBytes {
+            byte,
+            after,
+            blocks,
+        };
+        Some(Sign { at, what })
+    }
+}
+
+/// The earlier of two places, of those that there are.
+fn earlier(one: Option<Place>, another: Option<Place>) -> Option<Place> {
+    match (one, another) {
+        (Some(one), Some(another)) if another.record < one.record => Some(another),
+        (None, another) => another,
+        (one, _) => one,
+    }
+}

@@ -1,0 +1,123 @@
+//! Silences: the longest of a wire, and commands in a row without a reply.
+
+use crate::place::Place;
+use crate::sign::{Seeming, Sign};
+
+/// How many commands without a reply are a silence.
+const FEWEST_COMMANDS: u32 = 2;
+
+/// How long it lasts at least, in microseconds: longer than any adapter collects bytes.
+const SHORTEST_US: u64 = 100_000;
+
+/// A time without a byte on a wire.
+#[derive(Clone, Copy, Debug, Default, PartialEq, Eq)]
+pub(crate) struct Silence {
+    /// How long it is, in microseconds.
+    pub(crate) us: u64,
+    /// The record that ends it.
+    pub(crate) to: Place,
+}
+
+/// The three longest silences of a wire, the longest first.
+#[derive(Clone, Copy, Default)]
+pub(crate) struct Silences {
+    last_us: Option<u64>,
+    pub(crate) longest: [Silence; 3],
+}
+
+impl Silences {
+    /// Takes the wire's next record.
+    pub(crate) fn take(&mut self, to: Place) {
+        let last_us = self.last_us.unwrap_or(to.time_us);
+        let us = to.time_us.saturating_sub(last_us);
+        self.last_us = Some(to.time_us);
+        let [first, second, third] = self.longest;
+        let silence = Silence { us, to };
+        if us > first.us {
+            self.longest = [silence, first, second];
+        } else if us > second.us {
+            self.longest = [first, silence, second];
+        } else if us > third.us {
+            self.longest = [first, second, silence];
+        }
+    }
+}
+
+/// Commands in a row without a reply.
+#[derive(Clone, Copy)]
+struct Row {
+    /// How many.
+    commands: u32,
+    /// The first record of the first of them.
+    from: Place,
+    /// The first record of the command after them.
+    to: Place,
+}
+
+/// The commands since the deck's last byte, and the longest row of those without a reply.
+#[derive(Clone, Copy)]
+pub(crate) struct Awaited {
+    open: Option<Row>,
+    longest: Row,
+}
+
+impl Awaited {
+    /// Of no command.
+    pub(crate) const NONE: Awaited = Awaited {
+        open: None,
+        longest: Row {
+            commands: 0,
+            from: Place::NONE,
+            to: Place::NONE,
+        },
+    };
+
+    /// Takes a command that begins with this record.
+    pub(crate) fn take_command(&mut self, first: Place) {
+        self.open = Some(match self.open {
+            Some(open) => Row {
+                commands: open.commands.saturating_add(1),
+                from: open.from,
+                to: first,
+            },
+            None => Row {
+                commands: 0,
+                from: first,
+                to: first,
+            },
+        });
+    }
+
+    /// Takes a byte of the deck.
+    pub(crate) fn take_deck(&mut self) {
+        self.longest = self.longest_row();
+        self.open = None;
+    }
+
+    /// The longest row of commands without a reply that is a silence. A reply to the last command may still come.
+    fn longest_row(&self) -> Row {
+        match self.open {
+            Some(open) if open.is_silence() && open.commands > self.longest.commands => open,
+            _ => self.longest,
+        }
+    }
+
+    /// The sign that commands in a row have no reply.
+    pub(crate) fn sign(&self) -> Option<Sign> {
+        let row = self.longest_row();
+        let what = Seeming::Silence {
+            commands: row.commands,
+            from_us: row.from.time_us,
+            to_us: row.to.time_us,
+        };
+        row.is_silence().then_some(Sign { at: row.from, what })
+    }
+}
+
+impl Row {
+    /// Whether they are so many, and last so long, that it is a silence.
+    fn is_silence(&self) -> bool {
+        let us = self.to.time_us.saturating_sub(self.from.time_us);
+        self.commands >= FEWEST_COMMANDS && us >= SHORTEST_US
+    }
+}

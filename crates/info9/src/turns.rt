@@ -1,0 +1,85 @@
+//! The turns of the line: which command a reply comes to, how long it takes, and what both tell.
+
+use crate::cutter::Whole;
+use crate::delays::Delays;
+use crate::fits::Fits;
+use crate::label::{Label, command_in, tells_label};
+use crate::running::Running;
+use crate::silence::Awaited;
+use crate::told::Told;
+use block9::Command;
+use tc25::Rate;
+
+/// What is followed of commands and replies.
+#[derive(Drop)]
+pub(crate) struct Turns {
+    rate: Rate,
+    /// The last command.
+    asked: Option<Command>,
+    /// The one before it.
+    before: Option<Command>,
+    /// When the last byte of the last command came, in microseconds; none once it is answered.
+    asked_us: Option<u64>,
+    pub(crate) awaited: Awaited,
+    pub(crate) delays: Delays,
+    pub(crate) fits: Fits,
+    pub(crate) told: Told,
+    pub(crate) running: Running,
+}
+
+impl Turns {
+    /// Of no command.
+    pub(crate) fn new(rate: Rate) -> Turns {
+        Turns {
+            rate,
+            asked: None,
+            before: None,
+            asked_us: None,
+            awaited: Awaited::NONE,
+            delays: Delays::new(),
+            fits: Fits::NONE,
+            told: Told::NONE,
+            running: Running::NONE,
+        }
+    }
+
+    /// Takes a whole block of the controller.
+    pub(crate) fn take_command(&mut self, whole: &Whole) {
+        self.before = self.asked;
+        self.asked = command_in(&whole.block);
+        self.asked_us = Some(whole.last.time_us);
+        self.awaited.take_command(whole.first);
+        if self.asked.is_some_and(|command| command.time().is_some()) {
+            let _ = self.tell(whole);
+        }
+    }
+
+    /// Takes a whole block of the deck. Only the first after a command is its reply.
+    pub(crate) fn take_reply(&mut self, whole: &Whole) {
+        let Some(asked_us) = self.asked_us else {
+            return;
+        };
+        self.asked_us = None;
+        self.delays.take(whole.first, asked_us);
+        let Some(command) = self.asked else {
+            return;
+        };
+        if let Some(before) = self.before {
+            let reply = &whole.block;
+            self.fits.take(whole.first, reply, &command, &before);
+        }
+        if tells_label(&command, &whole.block) {
+            let label = self.tell(whole);
+            if let (Command::CurrentTimeSense { .. }, Some(label)) = (command, label) {
+                self.running.take(label);
+            }
+        }
+    }
+
+    /// Takes the time that a block tells.
+    fn tell(&mut self, whole: &Whole) -> Option<Label> {
+        let label = Label::of(self.rate, &whole.block, whole.first)?;
+        self.told.take(&label);
+        Some(label)
+    }
+}
