@@ -3,7 +3,7 @@ ghost use Rattle.judge9.specs.History.{nothing_told};
 ghost use Rattle.judge9.specs.Standing.{CanGoOn, Stands};
 
 use crate::follow::ending_of;
-use crate::json::{write_json_ending, write_json_why};
+use crate::objects::{write_json_ending, write_json_why};
 use crate::seen::Ending;
 use deck9::Profile;
 use judge9::{Event, Judging, Kept};

@@ -1,8 +1,8 @@
 //! A run of the deck as JSON.
 
 use crate::field::Field;
-use crate::json::line::Line;
-use crate::json::told::Told;
+use crate::objects::line::Line;
+use crate::objects::told::Told;
 use deck9::Profile;
 use report9::{JudgeError, RunVerdict, known_state};
 use std::alloc::Global;

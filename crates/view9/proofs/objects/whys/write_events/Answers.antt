@@ -1,6 +1,6 @@
 use Rattle.judge9.specs.History.{nothing_told}
 use Rattle.judge9.proofs.Reports.{advanced}
-use Rattle.view9.proofs.json.whys.write_events.Goals as goal
+use Rattle.view9.proofs.objects.whys.write_events.Goals as goal
 
 pub events-init : goal.events-init
 events-init g c = (

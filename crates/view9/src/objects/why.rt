@@ -1,8 +1,8 @@
 //! Why a record breaks a rule, as JSON.
 
 use crate::field::Field;
-use crate::json::line::Line;
-use crate::json::told::Told;
+use crate::objects::line::Line;
+use crate::objects::told::Told;
 use block9::{Exchange, Open, Reason, records_in};
 use capture9::{LineByte, Wire};
 use deck9::Profile;

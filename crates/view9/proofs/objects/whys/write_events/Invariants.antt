@@ -1,7 +1,7 @@
 use Rattle.judge9.specs.History.{History}
 use Rattle.judge9.specs.Keeping.{KeepsPart}
 use Rattle.judge9.specs.Standing.{CanGoOn, Stands, left_of}
-use Rattle.view9.proofs.json.whys.write_events.Given as goal
+use Rattle.view9.proofs.objects.whys.write_events.Given as goal
 
 -- the judging can go on, and the exchanges of its part are kept
 abbrev pub invariant-events : goal.invariant-events

@@ -1,14 +1,18 @@
 //! A line of JSON: an object, member by member.
+ghost use Rattle.std.specs.Prelude.{◌≡◌, ◌++◌, [], ◌∷◌, ℕ, List, IfOk, OnOk};
+ghost use Rattle.std.specs.Io.KnownBytes.{Appends};
+ghost use Rattle.view9.specs.Json.{IsObject};
+ghost use Rattle.view9.specs.Working.{AppendsMembers};
 
 use crate::field::Field;
-use crate::json::told::Told;
+use crate::objects::told::Told;
 use bitflags::Flags;
 use block9::{Command, Exchange, NakBits, Reason};
 use deck9::{Knowledge, Profile};
+use json::Writer;
 use report9::{
     JudgeError, Totals, put_block, put_command, put_hex, put_reply, status_in, time_told, write_all,
 };
-use serde::{Described, Serialize, Serializer};
 use std::alloc::{AllocError, Global};
 use std::io::Write;
 use tc25::{Rate, TimeCode};
@@ -16,23 +20,13 @@ use tc25::{Rate, TimeCode};
 /// Room for the members that most lines have.
 const MEMBERS: usize = 24;
 
+/// Room for the bytes that most lines have.
+const LENGTH: usize = 512;
+
 /// An object, which stands on a line of its own.
 #[derive(Drop)]
 pub(super) struct Line<'a> {
     members: Vec<(&'a str, Told<'a>)>,
-}
-
-impl Described for Line<'_> {}
-
-impl Serialize for Line<'_> {
-    fn serialize<S: Serializer>(&self, out: &mut S) -> Result<(), S::Error> {
-        out.begin_map(None)?;
-        for (name, told) in &self.members {
-            out.key(name)?;
-            told.serialize(out)?;
-        }
-        out.end_map()
-    }
 }
 
 impl<'a> Line<'a> {
@@ -197,12 +191,35 @@ impl<'a> Line<'a> {
         self.put("text", Told::Word(reason.text()))
     }
 
-    /// Writes the line. Of its text only the memory can be refused.
-    pub(super) fn write<W: Write>(&self, alloc: Global, writer: &mut W) -> Result<(), JudgeError> {
-        let Ok(mut text) = serde_json::to_vec(alloc, self) else {
-            return Err(JudgeError::OutOfMemory);
-        };
+    /// Writes the line, in one piece.
+    pub(super) fn write<W: Write>(&self, alloc: Global, writer: &mut W) -> Result<(), JudgeError>
+        ensures { OnOk result ((text : List ℕ) × IsObject text × Appends (W.contents writer.old) (W.contents writer.new) (text ++ 0x0A ∷ [])) }
+    {
+        let mut text = self.text(alloc)?;
         text.push(b'\n').map_err(AllocError::from)?;
         Ok(write_all(writer, text.as_slice())?)
+    }
+
+    /// The object.
+    fn text(&self, alloc: Global) -> Result<Vec<u8>, AllocError>
+        ensures { IfOk result (λ text. IsObject text.items) }
+    {
+        let room = Vec::with_capacity(alloc, LENGTH)?;
+        let mut out = Writer::new(room);
+        out.begin_object()?;
+        self.write_members(&mut out)?;
+        out.end_object()?;
+        Ok(out.into_inner())
+    }
+
+    /// Writes the members.
+    fn write_members(&self, out: &mut Writer) -> Result<(), AllocError>
+        ensures { OnOk result (AppendsMembers 2 out.old out.new) }
+    {
+        for member in &self.members {
+            out.key(member.0)?;
+            member.1.write(out)?;
+        }
+        Ok(())
     }
 }
