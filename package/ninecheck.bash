@@ -13,7 +13,7 @@ _ninecheck_options() {
         picture) echo "--at --width $judging --help" ;;
         touches) echo '--sync --rate --deck --help' ;;
         page) echo '--hands --sync --rate --deck --help' ;;
-        try) echo '--all --sync --deck --help' ;;
+        try) echo '--all --sync --rate --deck --help' ;;
         clock) echo '--seconds --help' ;;
         info) echo '--sync --rate --help' ;;
         split) echo '--to --rows --help' ;;

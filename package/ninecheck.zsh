@@ -69,7 +69,7 @@ case $asked in
     picture)
         options=($hands $sync $rate $sheet $all $buffered
             '--at[the record of the break]:record:' '--width[the greatest width in pixels]:pixels:') ;;
-    try) options=($all $sync $sheet) ;;
+    try) options=($all $sync $rate $sheet) ;;
     clock) options=('--seconds[write the times in seconds]') ;;
     info) options=($sync $rate) ;;
     split) options=('--to[how the parts are called]:name:_files' '--rows[the most rows of a part]:rows:') ;;

@@ -152,7 +152,7 @@ ninecheck |check clock convert delays digest explain help info json motion page 
 ninecheck e|explain|explain
 ninecheck -|--help --version -V -h|--help --version -V -h
 ninecheck why -|--all --deck --hands --help --line-buffered --quiet --rate --sync -h|--all --deck --hands --help --line-buffered --quiet --rate --sync -h
-ninecheck try -|--all --deck --help --sync -h|--all --deck --help --sync -h
+ninecheck try -|--all --deck --help --rate --sync -h|--all --deck --help --rate --sync -h
 ninecheck digest -|--all --bytes --deck --from --hands --help --line-buffered --rate --sync --to -h|--all --bytes --deck --from --hands --help --line-buffered --rate --sync --to -h
 ninecheck json run -|--deck --hands --help --rate --sync -h|--deck --hands --help --rate --sync -h
 ninecheck json why -|--all --deck --from --hands --help --line-buffered --rate --sync --to -h|--all --deck --from --hands --help --line-buffered --rate --sync --to -h
@@ -233,8 +233,8 @@ complete_words ninecheck json run --
 expect 'options of a run in objects are offered' 0 '--hands --sync --rate --deck --help' ''
 complete_words ninecheck json exp
 expect 'a report is completed' 0 'explain' ''
-complete_words ninecheck try --
-expect 'options of a word that is not the program'"'"'s own' 0 '--all --sync --deck --help' ''
+complete_words ninecheck page --
+expect 'options of a word that is not the program'"'"'s own' 0 '--hands --sync --rate --deck --help' ''
 complete_words ninecheck convert s
 expect 'exports are offered' 0 'sigrok saleae' ''
 complete_words ninecheck convert log --unit ''

@@ -24,7 +24,7 @@ run_text() {
 # The examples, each with its answer.
 while IFS='|' read -r file want_status want_out want_err; do
     case "$file" in '#'* | '') continue ;; esac
-    run_on "examples/$file"
+    run check "examples/$file" < /dev/null
     expect "examples/$file" "$want_status" "$want_out" "${want_err//|/$'\n'}"
 done < examples/ANSWERS
 
@@ -56,9 +56,9 @@ done <<'END'
 an empty text|0|header||
 empty lines alone|0|header||\n\r\n
 a byte order mark alone|0|header||\357\273\277
-another header|0|header||time_us,wire,Byte\n400,C,20\n
-a header with a byte that is no UTF-8|0|header||time_us,wire,byte\377\n400,C,20\n
-an unclosed quote in the header|0|header||"time_us,wire,byte\n400,C,20\n
+another header|0|header|time_us,wire,Byte|time_us,wire,Byte\n400,C,20\n
+a header with a byte that is no UTF-8|0|header|time_us,wire,byte?|time_us,wire,byte\377\n400,C,20\n
+an unclosed quote in the header|0|header|"time_us,wire,byte|"time_us,wire,byte\n400,C,20\n
 two fields|1|fields||time_us,wire,byte\n400,C\n
 a line of blanks|1|fields||time_us,wire,byte\n  \n400,C,20\n
 one empty field in quotes|1|fields||time_us,wire,byte\n""\n
@@ -83,6 +83,8 @@ the last printable byte and the ones beside it|1|wire|~??|time_us,wire,byte\n400
 the first printable byte and the ones beside it|1|wire| !?|time_us,wire,byte\n400, !\037,20\n
 a carriage return in quotes|1|wire|C?D|time_us,wire,byte\n400,"C\rD",20\n
 END
+run_text '\377\376t\000i\000m\000e\000\n\000'
+expect 'a text in UTF-16' 3 '' "$(both_lines 'unreadable at row 0: header' '??t?i?m?e?' '' ', in UTF-16: save it as UTF-8')"
 run_text 'time_us,wire,byte\n400,C,20\n800,C,01\n1200,C,22\n1600,D,G1\n'
 expect 'a rule broken before a bad row' 1 'no at record 3: B2 wrong sum' ''
 
@@ -143,7 +145,7 @@ explained 'explain on standard input' 0 "$yes" ''
 run explain examples/wrong-sum.csv < /dev/null
 explained 'explain with a file that breaks a rule' 1 'no at record 3: B2 wrong sum' ''
 run explain < examples/wrong-header.csv
-expect 'explain of a text that is no capture' 3 '' "$(both_lines 'unreadable at row 0: header')"
+expect 'explain of a text that is no capture' 3 '' "$(both_lines 'unreadable at row 0: header' time,wire,byte)"
 
 # run ends so too, and writes a line for each exchange before that of a yes (tests/run.sh has the lines).
 ran() {
@@ -174,7 +176,7 @@ expect 'run with a file of which no run remains' 1 'no at record 28: M1 no run r
 run run examples/bad-byte.csv < /dev/null
 expect 'run with a file that has a bad row' 3 '' "$(both_lines 'unreadable at row 7: byte' G1)"
 run run < examples/wrong-header.csv
-expect 'run of a text that is no capture' 3 '' "$(both_lines 'unreadable at row 0: header')"
+expect 'run of a text that is no capture' 3 '' "$(both_lines 'unreadable at row 0: header' time,wire,byte)"
 
 # why ends so too (tests/why.sh has the lines of a contradiction).
 run why examples/play.csv < /dev/null
@@ -194,7 +196,7 @@ explained 'why with a file of which no run remains' 1 'no at record 28: M1 no ru
 run why examples/bad-byte.csv < /dev/null
 expect 'why with a file that has a bad row' 3 '' "$(both_lines 'unreadable at row 7: byte' G1)"
 run why < examples/wrong-header.csv
-expect 'why of a text that is no capture' 3 '' "$(both_lines 'unreadable at row 0: header')"
+expect 'why of a text that is no capture' 3 '' "$(both_lines 'unreadable at row 0: header' time,wire,byte)"
 
 # Words that are no command, and words that ask for help: status 2, and a line that the text on this stream has.
 while IFS='|' read -r stream words line; do
@@ -268,7 +270,7 @@ run --help < /dev/null
 sed -n '/^Commands:/,/^$/s/^  \([a-z]*\( [a-z][a-z]*\)*\)  .*/\1/p' "$work/out" | tr '\n' ',' > "$work/text"
 judged=$(cat "$work/text")
 echo "$judged" > "$work/out"
-expect 'the subcommands that the help lists' 2 'check,explain,run,why,digest,delays,motion,json,json check,json explain,json run,json why,clock,info,help,' ''
+expect 'the subcommands that the help lists' 2 'check,explain,run,why,digest,delays,motion,json,json check,json explain,json run,json why,clock,info,try,help,' ''
 run "$(printf '\377')" < examples/play.csv
 expect 'a word that is not UTF-8' 2 '' 'error: a word of the command line is not UTF-8
 pass a file with such a name on standard input: ninecheck check < FILE'
@@ -310,7 +312,7 @@ expect 'a link to itself' 4 '' "cannot open
 $work/loop: Too many levels of symbolic links"
 : > "$work/empty.csv"
 run check "$work/empty.csv" < examples/play.csv
-expect 'an empty file' 3 '' "$(both_lines 'unreadable at row 0: header')"
+expect 'an empty file' 3 '' "$(both_lines 'unreadable at row 0: header' '' "$work/empty.csv")"
 # For the superuser every file is readable, so this one runs as somebody else.
 as=
 [ "$(id -u)" != 0 ] || as='setpriv --reuid=65534 --regid=65534 --clear-groups'

@@ -218,7 +218,7 @@ refused 'a time that falls in the place of the first command' 2 backwards 400
 text '400,D,10\n800,D,01\n,D,11\n'
 refused 'a bad row where no record begins a command' 3 time ''
 printf 'time,wire,byte\n400,D,11\n800,C,20\n' > "$work/capture.csv"
-refused 'a wrong header' 0 header
+refused 'a wrong header' 0 header time,wire,byte
 : > "$work/capture.csv"
 refused 'an empty text' 0 header
 

@@ -62,11 +62,31 @@ expect 'a sheet' 0 "$eject" 'yes with --rate 25 --hands, or with --rate 25 --dec
 ask try --deck=examples/eject.toml < examples/eject.csv
 expect 'a sheet, and standard input' 0 "$eject" 'yes with --rate 25 --hands, or with --rate 25 --deck'
 ask try --deck absent.toml examples/play.csv
-no_sheet=$(for rate in 25 24 30 29.97df; do
-    both $rate 'yes: records 6, exchanges 1, open 0' 'yes: records 6, exchanges 1, open 0'
-    both "$rate --deck" 'cannot open' 'cannot open'
+expect 'a sheet that is not there' 4 '' 'cannot open
+absent.toml: No such file or directory'
+ask try --deck examples/play.csv examples/play.csv
+expect 'a sheet that is none' 3 '' 'unreadable deck sheet
+examples/play.csv: line 1: not TOML'
+
+# One's own rate comes first, and where it is a yes it is named.
+ask try --rate 30 examples/disputed-in-point.csv
+own=$(for rate in 30 25 24 29.97df; do
+    both $rate 'no at record 28: M1 no run remains' 'yes: records 28, exchanges 3, open 0'
 done)
-expect 'a sheet that is not there' 0 "$no_sheet" ''
+expect "one's own rate" 0 "$own" 'yes with --rate 30 --hands'
+ask try --rate 24 examples/drop-frame.csv
+judge 'another rate than one'"'"'s own' eval '[ "$status" = 0 ] && [ "$(cat "$work/err")" = "yes with --rate 29.97df" ] && [ "$(head -n 1 "$work/out")" = "--rate 24: no at record 15: P6 invalid time in a command" ]'
+
+# What in the capture bears on the answers is said below them: it begins inside traffic, and its wires are swapped.
+records "D 11 $play" > "$work/inside.csv"
+ask try "$work/inside.csv"
+inside=$(for rate in 25 24 30 29.97df; do
+    both $rate 'no at record 1: P1 reply without a command' 'no at record 1: P1 reply without a command'
+done)
+expect 'a capture that begins inside a reply, without --sync' 1 "$inside" 'look at: begins inside traffic, at record 1: no command with a right checksum begins there; ask with --sync'
+sed 's/,C,/,X,/; s/,D,/,C,/; s/,X,/,D,/' examples/play.csv > "$work/swapped.csv"
+ask try "$work/swapped.csv"
+judge 'swapped wires' eval '[ "$status" = 1 ] && grep -qx "look at: the wires are swapped, at record 1: .*" "$work/err"'
 
 # With --all a line has the totals, and a yes is no break. With --sync all are judged from the first record that may begin a
 # command.
@@ -77,7 +97,6 @@ done)
 expect 'several breaks' 1 "$several" ''
 ask try --all examples/play.csv
 expect 'no break' 0 "${yes//yes: records 6, exchanges 1, open 0/breaks 0: records 6, exchanges 1, passed over 0, open 0}" ''
-records "D 11 $play" > "$work/inside.csv"
 ask try --sync "$work/inside.csv"
 expect 'a capture that begins inside a reply' 0 "$yes" ''
 
@@ -146,6 +165,7 @@ a digit that is not decimal||C 44 14 0A 00 00 00 62|next: 00:00:00:0A is not val
 flags are no part of the digits||C 44 14 E9 D9 80 C0 5A|next: 00:00:59:29 is not valid at --rate 25: the last frame is 24; it is valid at --rate 30 and --rate 29.97df
 a time in a reply||C 61 0C 01 6E D 74 04 25 00 00 00 9D|next: 00:00:00:25 is not valid at --rate 25: the last frame is 24; it is valid at --rate 30 and --rate 29.97df
 a dispute||C 61 20 01 82 D 71 20 00 91 C 44 14 00 00 00 10 68 D 10 01 11 C 60 10 70 D 74 10 00 00 00 11 95|next: yes with --rate 25 --hands
+a dispute at one's own rate|--rate 24|C 61 20 01 82 D 71 20 00 91 C 44 14 00 00 00 10 68 D 10 01 11 C 60 10 70 D 74 10 00 00 00 11 95|next: yes with --rate 24 --hands
 a dispute that no words settle||C 61 20 01 82 D 71 20 00 91 C 61 20 11 92 D 71 20 3F D0|next: neither a frame rate nor a hand on the panel makes it a yes (ninecheck try)
 a late reply||C 20 01 21 +9288 D 10|
 a second reply||C 20 01 21 D 10 01 11 D 10 01 11|

@@ -172,7 +172,7 @@ done
 
 # ---- Streams.
 
-for words in digest delays motion json 'json check' 'json run' 'json why' clock info; do
+for words in digest delays motion json 'json check' 'json run' 'json why' clock info try; do
     # shellcheck disable=SC2086
     "$program" $words examples/play.csv > /dev/full 2> "$work/err"
     status=$?

@@ -62,7 +62,6 @@ picture --all --at 23 examples/views/several-breaks.csv|2|@line picture: there i
 picture --width 20 examples/late-reply.csv|2|ninecheck picture: line 0: --width has to be a number from 700 on: 20
 picture examples/play.csv examples/play.csv|2|error: unexpected argument 'examples/play.csv' found\n\nUsage: ninecheck picture [OPTIONS] [FILE]\n\nFor more information, try '--help'.
 picture --at|2|error: a value is required for '--at' but none was supplied\n\nUsage: ninecheck picture [OPTIONS] [FILE]\n\nFor more information, try '--help'.
-try --hands examples/play.csv|2|error: unexpected argument '--hands' found\n\nUsage: ninecheck try [OPTIONS] [FILE]\n\nFor more information, try '--help'.
 convert hex|2|error: unrecognized export 'hex': sigrok, saleae and log are known\n\nUsage: ninecheck convert <sigrok|saleae|log> [OPTIONS] [FILE]\n\nFor more information, try '--help'.
 convert sigrok --samplerate 1 a b|2|error: unexpected argument 'b' found\n\nUsage: ninecheck convert sigrok --samplerate <N> [OPTIONS] [FILE]\n\nFor more information, try '--help'.
 END

@@ -6,7 +6,6 @@ bench_words() {
 For the bench:
   convert  Make a capture of what sigrok, Saleae Logic or a serial logger exports
   split    Cut a long capture into parts
-  try      Ask at each frame rate, without hands and with, and with a sheet
   touches  Where somebody must have touched the deck's front panel
   picture  A picture (SVG) of the record that breaks a rule
   page     The whole session as one page (HTML), to look at and to send on
@@ -32,7 +31,7 @@ show_help() {
     echo
     word_usage
     case $word in
-        convert* | split | try) echo && word_options ;;
+        convert* | split) echo && word_options ;;
         *)
             echo
             ask "$asks" --help | sed -n '/^Arguments:/,$p' | without_options
@@ -55,7 +54,6 @@ word_about() {
     case $word in
         convert*) echo 'Makes a capture of an export of both wires, and writes it to standard output' ;;
         split) echo 'Cuts a capture into parts that begin between exchanges: NAME-001.csv, NAME-002.csv and so on' ;;
-        try) echo 'Judges a capture at each frame rate, without hands and with, and with a sheet and without: a line for each' ;;
         touches) echo "Tells where somebody must have touched the deck's front panel, as seldom as possible, and what changed" ;;
         picture) echo 'Draws the record that breaks a rule, or the replies that contradict one another, as an SVG' ;;
         page) echo 'Makes a page of the whole capture: HTML that needs no network, to look at and to send on' ;;
@@ -112,15 +110,6 @@ Options:
       --to <NAME>  How the parts are called
       --rows <N>   The most rows of a part: 4000000 if left out
 END
-        try) cat <<'END' ;;
-Arguments:
-  [FILE]  The capture of both wires of the RS-422 line, as CSV; standard input if left out
-
-Options:
-      --all          Go on after each break: a line has the totals, and a yes is no break
-      --sync         The capture may begin inside a command or a reply
-      --deck <FILE>  A sheet of what this deck does of its own: asked with it, and without
-END
         picture) cat <<'END' ;;
 
 Of the picture:
@@ -133,7 +122,7 @@ END
 # top_help WORDS...: what the program says of itself, with the other words below its own. The status is the program's.
 top_help() {
     case ${2-} in
-        convert | split | try | touches | picture | page | why)
+        convert | split | touches | picture | page | why)
             [ "$1" != help ] || exec "$self" "$2" --help ;;
     esac
     (run_program "$@")

@@ -1,7 +1,5 @@
 # To be sourced: what to ask next, as a line.
 
-. "$share/view/trying.sh"
-
 # rate_hint RATE: how to ask at a frame rate that the program has another name for.
 rate_hint() {
     case $1 in
@@ -17,7 +15,11 @@ why_hint() {
     hint=$(ask why "$@" -- "$judged" 2> /dev/null | run_awk view hint "rate=$own_rate")
     case $hint in
         M1)
-            hint=$(try_all && yes_words)
+            set -- --rate "${own_rate:-25}" ${own_all:+--all} ${own_sync:+--sync} ${own_deck:+"--deck=$own_deck"}
+            hint=$(ask try "$@" -- "$judged" 2>&1 > /dev/null)
+            status=$?
+            hint=$(echo "$hint" | grep '^yes with ')
+            [ "$status" != 0 ] || hint=${hint:-yes with --rate ${own_rate:-25}}
             hint="next: ${hint:-neither a frame rate nor a hand on the panel makes it a yes (ninecheck try)}" ;;
         '') return ;;
     esac

@@ -1,13 +1,15 @@
 # To be sourced by a script of tests that compares what stands on standard error.
 
-# both_lines LINE [FIELD]: the first line that is said of a capture or a stream, and the second that belongs to it; nothing where
-# nothing is said. FIELD is what the row has in the field that is wrong, as it is shown between the quotes.
+# both_lines LINE [FIELD [FILE [HINT]]]: the first line that is said of a capture or a stream, and the second that belongs to it;
+# nothing where nothing is said. FIELD is what the row has in the field that is wrong, as it is shown between the quotes; of a header
+# the capture's first line, with its FILE, which is standard input if left out, and the HINT after it.
 both_lines() {
     [ -n "$1" ] || return 0
     echo "$1"
     case $1 in
         *': header')
-            echo 'expected the header time_us,wire,byte; convert/ makes captures of exports, see docs/CAPTURE.md' ;;
+            [ -n "${2-}" ] && default='; ninecheck convert makes captures of exports, see docs/CAPTURE.md' || default='; there is no text in it'
+            echo "${3:-standard input}: expected the header time_us,wire,byte; the first line is \"${2-}\"${4:-$default}" ;;
         *': fields') echo 'expected three fields: time_us,wire,byte' ;;
         *': time') echo "expected 1 to 15 decimal digits, the time in microseconds; the row has \"${2-}\"" ;;
         *': wire') echo "expected C for the controller's wire, or D for the deck's; the row has \"${2-}\"" ;;

@@ -20,13 +20,14 @@ use Rattle.judge9.specs.Judging.{Answers}
 use Rattle.judge9.specs.Report.{Told, by_totals, by_verdict}
 use Rattle.judge9.specs.RunVerdict.{IsJudgedRun, verdict_of}
 use Rattle.words9.specs.declared.task.Report.{Report}
-use Rattle.words9.specs.declared.task.Report.TheVariants.{Clock, Info, JsonRun, Made, Parts, Run, ToBreak}
+use Rattle.words9.specs.declared.task.Report.TheVariants.{Clock, Info, JsonRun, Made, Parts, Run, ToBreak, Try}
 use Rattle.view9.specs.declared.clock.ClockFault.{ClockFault}
 use Rattle.view9.specs.declared.seen.Ending.{Ending}
 use Rattle.program9.specs.declared.ending.Outcome.{Outcome}
 use Rattle.program9.specs.declared.judging.Job.{Job}
-use Rattle.program9.specs.Outcome.{outcome_in_parts, outcome_made, outcome_of, outcome_rewritten, outcome_told}
+use Rattle.program9.specs.Outcome.{outcome_in_parts, outcome_made, outcome_of, outcome_rewritten, outcome_told, outcome_tried}
 use Rattle.program9.specs.Output.{IsFirstPart}
+use Rattle.program9.specs.Trying.{TellsAnswers}
 
 -- of a judging that answered `judged`, after which the writer was to hold `all`: the result is that answer, and
 -- the writer holds all of it; or the result is a write fault, and the writer holds a first part
@@ -98,3 +99,4 @@ EndsJudged (Made made extent) job capture old end now = EndsMade end
 EndsJudged JsonRun job capture old end now = EndsJsonRun end
 EndsJudged (Clock form) job capture old end now = EndsRewritten end
 EndsJudged Info job capture old end now = EndsInfo end
+EndsJudged (Try extent) job capture old end now = EndsAs (TellsAnswers (record { extent = extent; beginning = job.asked.beginning }) job.profile capture old) outcome_tried end now

@@ -1,9 +1,11 @@
+pub mod Header
 pub mod Word
 pub mod Text
 pub mod Opening
 pub mod Outcome
 pub mod Output
 pub mod WholeLines
+pub mod Trying
 pub mod Judging
 pub mod Sheet
 pub mod Status

@@ -67,6 +67,11 @@ abbrev pub outcome_told : Result Unit JudgeError → Outcome
 outcome_told (Ok told) = record { status = 0; message = message.Nothing }
 outcome_told (Err e) = outcome_refused e
 
+-- after a capture was asked with several terms the end is the one that this came to; after a refusal it is that of any judging
+abbrev pub outcome_tried : Result Outcome JudgeError → Outcome
+outcome_tried (Ok end) = end
+outcome_tried (Err e) = outcome_refused e
+
 -- what is said, but of a write fault nothing
 abbrev pub unless_write_fault : Message → Message
 unless_write_fault message.WriteFault = message.Nothing

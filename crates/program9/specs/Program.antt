@@ -16,6 +16,8 @@ use Rattle.program9.specs.declared.ending.End.{End}
 use Rattle.program9.specs.declared.ending.End.TheVariants as end
 use Rattle.program9.specs.declared.ending.Outcome.{Outcome}
 use Rattle.program9.specs.declared.judging.Job.{Job}
+use Rattle.program9.specs.declared.no_header.FoundHeader.{FoundHeader}
+use Rattle.program9.specs.Header.{with_header}
 use Rattle.program9.specs.Judging.{EndsJudged}
 use Rattle.program9.specs.Opening.{no_memory, outcome_unopened}
 use Rattle.program9.specs.Outcome.{told_after}
@@ -65,8 +67,9 @@ pub record EndsOpening {R S W : Type 0} (streams : Streams R S W) (task : Task) 
 abbrev pub EndsBefore : {R S W : Type 0} → Streams R S W → Task → Outcome → Type 0
 EndsBefore streams task end = FindsDeck streams.opens_sheet streams.coming_sheet task.deck (Err end) ⊎ EndsOpening streams task end
 
--- the judging of the task began, and ended; if a write failed on the way, it failed with some kind of error, and this is the end then.
--- No contract of a writer says when it fails, and how
+-- the judging of the task began, and ended; where the header is at fault, the end tells the file and what stands in the place of the
+-- header: which bytes are shown of it is tested. If a write failed on the way, it failed with some kind of error, and this is the end
+-- then. No contract of a writer says when it fails, and how
 pub record EndsJudging {R S W : Type 0} (streams : Streams R S W) (task : Task) (out : W) (end : Outcome) (now : Option (List ℕ)) : Type 0 where
   pub reader : R
   pub buffer : Buffered W
@@ -74,8 +77,9 @@ pub record EndsJudging {R S W : Type 0} (streams : Streams R S W) (task : Task) 
   pub begins : Begins streams task out reader buffer job
   pub judged : Outcome
   pub is_judged : EndsJudged job.asked.report job (streams.coming reader) (streams.contents out) judged now
+  pub found : FoundHeader
   pub failed : Option ErrorKind
-  pub ends : end ≡ told_after failed judged
+  pub ends : end ≡ told_after failed (with_header task.file found judged)
 
 -- the task was carried out, and this is the end: it ended before its judging, and nothing is written; or its judging ended
 abbrev pub EndsTask : {R S W : Type 0} → Streams R S W → Task → W → Outcome → Option (List ℕ) → Type 0

@@ -7,6 +7,7 @@ use Rattle.capture9.specs.declared.shown_field.ShownField.{ShownField}
 use Rattle.sheet9.specs.Text as sheet
 use Rattle.program9.specs.declared.ending.Message.{Message}
 use Rattle.program9.specs.declared.ending.Message.TheVariants as message
+use Rattle.program9.specs.Header.{header_found}
 use Rattle.program9.specs.Word.{expected_of, file_name_of, first_line_of, reason_of, word_of}
 
 -- what a bad row has in the field that is wrong, after what was expected there
@@ -14,10 +15,13 @@ abbrev pub found_text : Option ShownField → List ℕ
 found_text (Some field) = codes "; the row has " ++ shown_text field
 found_text None = []
 
--- two lines, without a line feed at the end; nothing where there is a verdict, or the version was told
+-- two lines, or what to look at besides the answers to several terms, without a line feed at the end; nothing where there is a verdict, or the
+-- version was told
 abbrev pub text_of : Message → List ℕ
 text_of message.Nothing = []
 text_of (message.Unreadable e) = codes "unreadable at row " ++ decimal e.row ++ codes ": " ++ word_of e.kind ++ codes "\n" ++ expected_of e.kind e.row ++ found_text e.field
+text_of (message.NoHeader n) = codes "unreadable at row 0: header\n" ++ file_name_of n.file ++ codes ": expected the header time_us,wire,byte; the first line is " ++ header_found n.found
+text_of (message.Hints lines) = string_bytes lines
 text_of (message.ReadFault row) = codes "read fault at row " ++ decimal row ++ codes "\nexpected a capture that can be read to its end, not a directory"
 text_of (message.CannotOpen u) = first_line_of u.why ++ codes "\n" ++ file_name_of u.file ++ codes ": " ++ reason_of u.why
 text_of (message.UnreadableSheet u) = codes "unreadable deck sheet\n" ++ string_bytes u.file ++ codes ": " ++ sheet.text_of u.refusal

@@ -22,7 +22,7 @@ word_of kind.OutOfMemory = codes "out of memory"
 
 -- what was expected where there is this fault at this row; of a row too many, its number tells which limit held
 abbrev pub expected_of : CaptureKind → ℕ → List ℕ
-expected_of kind.Header row = codes "expected the header time_us,wire,byte; convert/ makes captures of exports, see docs/CAPTURE.md"
+expected_of kind.Header row = codes "expected the header time_us,wire,byte"
 expected_of kind.Fields row = codes "expected three fields: time_us,wire,byte"
 expected_of kind.Time row = codes "expected 1 to 15 decimal digits, the time in microseconds"
 expected_of kind.Wire row = codes "expected C for the controller's wire, or D for the deck's"

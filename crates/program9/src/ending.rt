@@ -1,5 +1,6 @@
 //! How the program ends: its status, and what it says on standard error.
 
+use crate::no_header::NoHeader;
 use capture9::CaptureError;
 use clap::Error;
 use sheet9::Refusal;
@@ -13,6 +14,10 @@ pub enum Message {
     Nothing,
     /// A row of the capture is bad, or its header. The kind is neither `Read` nor `OutOfMemory`.
     Unreadable(CaptureError),
+    /// The header of the capture is none, and this stands in its place.
+    NoHeader(NoHeader),
+    /// The capture was asked with several terms, and this is what to look at besides, line by line.
+    Hints(String),
     /// The reader failed or was interrupted at this data row, counted from 1; 0 is the header.
     ReadFault(u32),
     /// The capture was not opened. No result of `judge` ends so.

@@ -9,10 +9,13 @@ ghost use Rattle.program9.specs.Judging.{EndsJudged, HandsOn, IsJudgedWithRun, W
 use crate::buffered::Buffered;
 use crate::ending::Outcome;
 use crate::making::{make, rewrite_times, tell_info};
-use crate::status::{outcome, outcome_in_parts, outcome_made, outcome_rewritten, outcome_told};
+use crate::status::{
+    outcome, outcome_in_parts, outcome_made, outcome_rewritten, outcome_told, outcome_tried,
+};
+use crate::trying::try_each;
 use deck9::Profile;
 use judge9::{judge_for, judge_parts_for, judge_with_run_for};
-use report9::{JudgeError, RunVerdict, Verdict, write_run_for};
+use report9::{JudgeError, RunVerdict, Scope, Verdict, write_run_for};
 use std::alloc::Global;
 use std::io::{Read, Write};
 use view9::{ClockFault, write_json_run};
@@ -38,14 +41,14 @@ pub fn judge_and_flush<R: Read + Drop, W: Write + Drop>(
     alloc: Global,
     reader: R,
     out: &mut Buffered<W>,
-    job: &Job,
+    job: Job,
 ) -> Outcome
-    ensures { EndsJudged job.now.asked.report job.now (R.remaining reader) (held_contents W.contents out.old) result (contents_behind W.contents out.new) }
+    ensures { EndsJudged job.asked.report job (R.remaining reader) (held_contents W.contents out.old) result (contents_behind W.contents out.new) }
 {
     let beginning = job.asked.beginning;
     match job.asked.report {
         Report::Run => {
-            let judged = tell_run(alloc, reader, out, job);
+            let judged = tell_run(alloc, reader, out, &job);
             outcome(&ended(out, judged))
         }
         Report::ToBreak(view) => {
@@ -57,11 +60,11 @@ pub fn judge_and_flush<R: Read + Drop, W: Write + Drop>(
             outcome_in_parts(&ended(out, judged))
         }
         Report::Made(made, extent) => {
-            let judged = make(alloc, reader, out, made, extent, job);
+            let judged = make(alloc, reader, out, made, extent, &job);
             outcome_made(&ended(out, judged))
         }
         Report::JsonRun => {
-            let judged = tell_json_run(alloc, reader, out, job);
+            let judged = tell_json_run(alloc, reader, out, &job);
             outcome(&ended(out, judged))
         }
         Report::Clock(form) => {
@@ -69,8 +72,13 @@ pub fn judge_and_flush<R: Read + Drop, W: Write + Drop>(
             outcome_rewritten(&flushed(out, told))
         }
         Report::Info => {
-            let told = tell_info(alloc, reader, out, job);
+            let told = tell_info(alloc, reader, out, &job);
             outcome_told(&ended(out, told))
+        }
+        Report::Try(extent) => {
+            let scope = Scope { extent, beginning };
+            let told = try_each(alloc, reader, out, scope, job.profile);
+            outcome_tried(ended(out, told))
         }
     }
 }

@@ -4,18 +4,23 @@
 
 mod buffered;
 mod ending;
+mod first_bytes;
 mod held;
 mod judging;
 pub mod laws;
 mod making;
 mod message;
+mod no_header;
 mod program;
 mod sheet;
 mod status;
+mod trying;
 mod version;
 
 pub use buffered::Buffered;
 pub use ending::{End, Message, Outcome, Unopened, UnreadSheet, WhyUnopened};
 pub use judging::{Job, judge_and_flush};
+pub use no_header::{FoundHeader, LooksLike, NoHeader};
 pub use program::run_program;
 pub use status::{outcome, outcome_in_parts, outcome_made, outcome_rewritten, outcome_told};
+pub use trying::{Answer, Terms};

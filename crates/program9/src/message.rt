@@ -23,6 +23,14 @@ impl fmt::Display for Message {
                     None => Ok(()),
                 }
             }
+            Message::NoHeader(no) => {
+                let (file, found) = (file_name_of(&no.file), &no.found);
+                write!(
+                    f,
+                    "unreadable at row 0: header\n{file}: expected the header time_us,wire,byte; the first line is {found}"
+                )
+            }
+            Message::Hints(lines) => f.write_str(lines.as_str()),
             Message::ReadFault(row) => {
                 let row = *row;
                 write!(
@@ -57,7 +65,7 @@ impl fmt::Display for Message {
 }
 
 /// What is wrong at a row, in a word or two.
-fn word_of<'a>(kind: CaptureKind) -> &'a str
+pub(crate) fn word_of<'a>(kind: CaptureKind) -> &'a str
     ensures { result.now ≡ word_of kind }
 {
     match kind {
@@ -78,8 +86,7 @@ fn expected_of<'a>(kind: CaptureKind, row: u32) -> &'a str
     ensures { result.now ≡ expected_of kind row }
 {
     match kind {
-        CaptureKind::Header =>
-            "expected the header time_us,wire,byte; convert/ makes captures of exports, see docs/CAPTURE.md",
+        CaptureKind::Header => "expected the header time_us,wire,byte",
         CaptureKind::Fields => "expected three fields: time_us,wire,byte",
         CaptureKind::Time => "expected 1 to 15 decimal digits, the time in microseconds",
         CaptureKind::Wire => "expected C for the controller's wire, or D for the deck's",

@@ -8,7 +8,9 @@ ghost use Rattle.program9.specs.Program.{Begins, EndsBefore, EndsProgram, EndsTa
 
 use crate::buffered::Buffered;
 use crate::ending::{End, Message, Outcome, Unopened, WhyUnopened};
+use crate::first_bytes::FirstBytes;
 use crate::judging::{Job, judge_and_flush};
+use crate::no_header::{found_in, with_header};
 use crate::sheet::find_deck;
 use crate::version::tell_version;
 use deck9::Profile;
@@ -25,6 +27,8 @@ struct Begun<R: Read + Drop, W: Write + Drop> {
     out: Buffered<W>,
     /// What is asked of the capture, and for which deck.
     job: Job,
+    /// The capture's file, by the name that the words give; standard input where there is none.
+    file: Option<String>,
 }
 
 /// The program from its words, or from why there are none, to its end: reads the task, reads the deck's sheet that it names, opens
@@ -112,8 +116,11 @@ fn carry_out<
                 reader,
                 mut out,
                 job,
+                file,
             } = begun;
-            let judged = judge_and_flush(alloc, reader, &mut out, &job);
+            let mut reader = FirstBytes::of(reader);
+            let judged = judge_and_flush(alloc, &mut reader, &mut out, job);
+            let judged = with_header(judged, file, found_in(reader.as_slice()));
             taken_back(out, judged)
         }
         Err(ended) => ended,
@@ -138,6 +145,7 @@ fn begin<
     requires sheet { G.IsAlwaysCallable sheet_opener }
     requires capture { F.IsAlwaysCallable opener }
     ensures begins { IfOk result (λ b. Begins (record { opens = FnOnceReturnsAt F.FnOnce opener; coming = R.remaining; opens_sheet = FnOnceReturnsAt G.FnOnce sheet_opener; coming_sheet = S.remaining; contents = W.contents }) task out b.reader b.out b.job) }
+    ensures file { IfOk result (λ b. b.file ≡ task.file) }
     ensures ends { IfErr result (λ e. EndsBefore (record { opens = FnOnceReturnsAt F.FnOnce opener; coming = R.remaining; opens_sheet = FnOnceReturnsAt G.FnOnce sheet_opener; coming_sheet = S.remaining; contents = W.contents }) task e.0) }
     ensures untouched { IfErr result (λ e. e.1 ≡ out) }
 {
@@ -160,7 +168,12 @@ fn begin<
     match Buffered::new(alloc, out, asked.line_buffered) {
         Ok(out) => {
             let job = Job { asked, profile };
-            Ok(Begun { reader, out, job })
+            Ok(Begun {
+                reader,
+                out,
+                job,
+                file,
+            })
         }
         Err(out) => Err((Outcome::new(5, Message::NoMemory), out)),
     }

@@ -1,6 +1,6 @@
 //! From the result of a judging to how the program ends.
 ghost use Rattle.std.specs.Prelude.{◌≡◌};
-ghost use Rattle.program9.specs.Outcome.{outcome_in_parts, outcome_made, outcome_of, outcome_refused, outcome_rewritten, outcome_told};
+ghost use Rattle.program9.specs.Outcome.{outcome_in_parts, outcome_made, outcome_of, outcome_refused, outcome_rewritten, outcome_told, outcome_tried};
 
 use crate::ending::{Message, Outcome};
 use capture9::CaptureKind;
@@ -71,6 +71,17 @@ pub fn outcome_told(told: &Result<(), JudgeError>) -> Outcome
     match told {
         Ok(()) => Outcome::new(0, Message::Nothing),
         Err(refusal) => outcome_refused(refusal),
+    }
+}
+
+/// How the program ends after a capture was asked with several terms: as that came to, or after a refusal as [`outcome`] says. Takes no
+/// memory.
+pub(crate) fn outcome_tried(told: Result<Outcome, JudgeError>) -> Outcome
+    ensures { result ≡ outcome_tried told }
+{
+    match told {
+        Ok(end) => end,
+        Err(refusal) => outcome_refused(&refusal),
     }
 }
 

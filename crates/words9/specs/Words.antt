@@ -24,7 +24,7 @@ use Rattle.report9.specs.declared.verdict.View.TheVariants as view
 use Rattle.words9.specs.declared.task.Asked.{Asked}
 use Rattle.words9.specs.declared.task.Report.{Report}
 use Rattle.words9.specs.declared.task.Made.TheVariants as made
-use Rattle.words9.specs.declared.task.Report.TheVariants.{Clock, Info, JsonRun, Made, Parts, Run, ToBreak}
+use Rattle.words9.specs.declared.task.Report.TheVariants.{Clock, Info, JsonRun, Made, Parts, Run, ToBreak, Try}
 use Rattle.words9.specs.declared.task.Task.{Task}
 use Rattle.report9.specs.declared.time_form.TimeForm.{TimeForm}
 use Rattle.report9.specs.declared.time_form.TimeForm.TheVariants as form
@@ -112,8 +112,9 @@ name_of verb.JsonRun = codes "json run"
 name_of verb.JsonWhy = codes "json why"
 name_of verb.Clock = codes "clock"
 name_of verb.Info = codes "info"
+name_of verb.Try = codes "try"
 
--- what each subcommand has but `clock` and `info`: the word of its verb, and then the file and the options of the panel, of the capture's
+-- what each subcommand has but `clock`, `info` and `try`: the word of its verb, and then the file and the options of the panel, of the capture's
 -- beginning, of the rate and of the deck's sheet
 abbrev pub plain_app_for : RateNames → Verb → App
 plain_app_for names verb =
@@ -134,6 +135,10 @@ clock_app = with_rule (with_rule (new_app (name_of verb.Clock)) file_rule) secon
 abbrev pub info_app_for : RateNames → App
 info_app_for names = with_rule (with_rule (with_rule (new_app (name_of verb.Info)) file_rule) sync_rule) (rate_rule names)
 
+abbrev pub try_app_for : RateNames → App
+try_app_for names =
+    with_rule (with_rule (with_rule (with_rule (with_rule (new_app (name_of verb.Try)) file_rule) sync_rule) (rate_rule names)) deck_rule) all_rule
+
 -- the subcommand of a verb
 abbrev pub app_for : RateNames → Verb → App
 app_for names verb.Check = with_all_rules (plain_app_for names verb.Check)
@@ -150,6 +155,7 @@ app_for names verb.JsonRun = plain_app_for names verb.JsonRun
 app_for names verb.JsonWhy = with_stretch_rules (with_all_rules (plain_app_for names verb.JsonWhy))
 app_for names verb.Clock = clock_app
 app_for names verb.Info = info_app_for names
+app_for names verb.Try = try_app_for names
 
 -- the program, which wants a subcommand, and has a version; its own name is not among the words
 abbrev pub top : App
@@ -166,7 +172,7 @@ with_verb names app verb = with_subcommand app (app_for names verb).top
 abbrev pub program : RateNames → App
 program names =
     fold (with_verb names) top
-    (verb.Check ∷ verb.Explain ∷ verb.Run ∷ verb.Why ∷ verb.Digest ∷ verb.Delays ∷ verb.Motion ∷ verb.Json ∷ verb.JsonCheck ∷ verb.JsonExplain ∷ verb.JsonRun ∷ verb.JsonWhy ∷ verb.Clock ∷ verb.Info ∷ [])
+    (verb.Check ∷ verb.Explain ∷ verb.Run ∷ verb.Why ∷ verb.Digest ∷ verb.Delays ∷ verb.Motion ∷ verb.Json ∷ verb.JsonCheck ∷ verb.JsonExplain ∷ verb.JsonRun ∷ verb.JsonWhy ∷ verb.Clock ∷ verb.Info ∷ verb.Try ∷ [])
 
 -- a report that `json` can be asked for
 abbrev pub is_asked : Text → Bool
@@ -222,6 +228,7 @@ report_of verb.JsonRun all bytes seconds = JsonRun
 report_of verb.JsonWhy all bytes seconds = Made (made.Json view.Why) (extent_of all)
 report_of verb.Clock all bytes seconds = Clock (form_of seconds)
 report_of verb.Info all bytes seconds = Info
+report_of verb.Try all bytes seconds = Try (extent_of all)
 
 -- with which record the judging begins, where the words say `--sync` or not
 abbrev pub beginning_of : Bool → Beginning

@@ -40,6 +40,8 @@ pub enum Verb {
     Clock,
     /// Tells what a capture says of itself: `info`.
     Info,
+    /// Asks with each rate, without hands and with, and with a sheet: `try`.
+    Try,
 }
 
 /// What is made of the events of a capture, beside the program's own reports.
@@ -72,6 +74,9 @@ pub enum Report {
     Clock(TimeForm),
     /// What the capture says of itself. Nothing is judged.
     Info,
+    /// The verdict or the totals of each judging with one of the rates, that of the task first, without hands and with, and without
+    /// the sheet and with it, where there is one. Each goes so far.
+    Try(Extent),
 }
 
 /// What is asked of a capture, whatever its deck is taken for.

@@ -3,7 +3,7 @@ ghost use Rattle.std.specs.Prelude.{◌≡◌, IfOk, false, map};
 ghost use Rattle.std.specs.String.{string_bytes};
 ghost use Rattle.clap.specs.Words.{FailsBy, app_of, fault_of, rule_of, subcommand_of, subcommand_rows_of, with_subcommand};
 ghost use Rattle.clap.specs.declared.builder.command.Command.TheViews.{out-Command as fields_of};
-ghost use Rattle.words9.specs.Words.{AreRateNames, all_rule, app_for, bytes_rule, clock_app, deck_rule, file_rule, from_rule, hands_rule, info_app_for, line_buffered_rule, name_of, plain_app_for, program, rate_rule, seconds_rule, sync_rule, to_rule, top, with_all_rules, with_bytes_rule, with_stretch_rules};
+ghost use Rattle.words9.specs.Words.{AreRateNames, all_rule, app_for, bytes_rule, clock_app, deck_rule, file_rule, from_rule, hands_rule, info_app_for, line_buffered_rule, name_of, plain_app_for, program, rate_rule, seconds_rule, sync_rule, to_rule, top, try_app_for, with_all_rules, with_bytes_rule, with_stretch_rules};
 
 use crate::task::{VERSION_LINE, Verb};
 use clap::{Arg, ArgAction, ArgMatches, Command, Error};
@@ -51,7 +51,8 @@ fn whole<'a>(alloc: Global, rates: &'a [&'a str]) -> Result<Command<'a>, AllocEr
     let command = with_verb(alloc, command, Verb::JsonRun, rates)?;
     let command = with_verb(alloc, command, Verb::JsonWhy, rates)?;
     let command = with_verb(alloc, command, Verb::Clock, rates)?;
-    with_verb(alloc, command, Verb::Info, rates)
+    let command = with_verb(alloc, command, Verb::Info, rates)?;
+    with_verb(alloc, command, Verb::Try, rates)
 }
 
 /// A command with the subcommand of a verb.
@@ -91,11 +92,12 @@ fn subcommand<'a>(
     match verb {
         Verb::Clock => return clock(alloc),
         Verb::Info => return info(alloc, rates),
+        Verb::Try => return asks_each(alloc, rates),
         _ => {}
     }
     let command = plain_subcommand(alloc, verb, rates)?;
     match verb {
-        Verb::Run | Verb::JsonRun | Verb::Clock | Verb::Info => Ok(command),
+        Verb::Run | Verb::JsonRun | Verb::Clock | Verb::Info | Verb::Try => Ok(command),
         Verb::Check | Verb::Why => with_all(alloc, command),
         Verb::JsonCheck | Verb::JsonWhy => with_stretch(alloc, with_all(alloc, command)?),
         Verb::Explain => with_all(alloc, with_bytes(alloc, command)?),
@@ -151,6 +153,21 @@ fn info<'a>(alloc: Global, rates: &'a [&'a str]) -> Result<Command<'a>, AllocErr
         .arg(capture_file(alloc))?
         .arg(sync(alloc))?
         .arg(rate(alloc, rates))?;
+    Ok(command)
+}
+
+/// The subcommand that asks with each rate, without hands and with, and with a sheet.
+fn asks_each<'a>(alloc: Global, rates: &'a [&'a str]) -> Result<Command<'a>, AllocError>
+    ensures app { IfOk result (λ c. app_of c ≡ try_app_for rates.entry) }
+    ensures local { IfOk result (λ c. (fields_of c).has_globals ≡ false) }
+{
+    let command = Command::new(alloc, name_of(Verb::Try)).about(about(Verb::Try));
+    let command = command
+        .arg(capture_file(alloc))?
+        .arg(sync(alloc))?
+        .arg(rate(alloc, rates))?
+        .arg(deck(alloc))?
+        .arg(all(alloc))?;
     Ok(command)
 }
 
@@ -318,6 +335,7 @@ fn name_of<'a>(verb: Verb) -> &'a str
         Verb::JsonWhy => "json why",
         Verb::Clock => "clock",
         Verb::Info => "info",
+        Verb::Try => "try",
     }
 }
 
@@ -346,5 +364,7 @@ fn about<'a>(verb: Verb) -> &'a str {
             "Write the times of a text as a clock: of a report, of a digest or of a motion",
         Verb::Info =>
             "Tell what the capture says of itself, and what to look at before anybody is blamed; nothing is judged",
+        Verb::Try =>
+            "Judge the capture at each frame rate, without hands and with, and with a sheet: a line for each",
     }
 }

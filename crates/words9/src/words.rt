@@ -178,6 +178,7 @@ fn report_of(verb: Verb, all: bool, bytes: bool, seconds: bool) -> Report
         Verb::Clock if seconds => Report::Clock(TimeForm::Seconds),
         Verb::Clock => Report::Clock(TimeForm::Clock),
         Verb::Info => Report::Info,
+        Verb::Try => Report::Try(extent_of(all)),
     }
 }
 
@@ -246,6 +247,7 @@ fn verb_of(name: &str) -> Option<Verb>
         "json why" => Some(Verb::JsonWhy),
         "clock" => Some(Verb::Clock),
         "info" => Some(Verb::Info),
+        "try" => Some(Verb::Try),
         _ => None,
     }
 }

@@ -33,7 +33,7 @@ fn judged(alloc: Global, text: &str, report: Report, writer: Narrow) -> Option<(
         line_buffered: false,
     };
     let profile = Profile::of(Hands::None);
-    let end = judge_and_flush(alloc, text.as_bytes(), &mut out, &Job { asked, profile });
+    let end = judge_and_flush(alloc, text.as_bytes(), &mut out, Job { asked, profile });
     Some((end, out.into_writer()))
 }
 

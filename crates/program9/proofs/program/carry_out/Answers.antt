@@ -1,4 +1,6 @@
-use Rattle.std.proofs.Common.{inr}
+use Rattle.std.proofs.Common.{ap, inr, ◌∙◌}
+use Rattle.program9.specs.Header.{with_header}
+use Rattle.program9.specs.Outcome.{told_after}
 use Rattle.program9.proofs.BufferLemmas.{holds_nothing}
 use Rattle.program9.proofs.program.carry_out.Goals as goal
 
@@ -7,7 +9,8 @@ returns-in-Ok g c =
     let begun = c.in-Ok.begun in
     let begins = c.in-Ok.ensures.begins in
     let contents = g.W.Write.contents in
-    let is_judged = rw (holds_nothing contents begun.out c.args.out begins.is_behind begins.is_empty) at c.judge_and_flush-judged.ensures in
+    let is_judged = rw (holds_nothing contents begun.out c.args.out begins.is_behind begins.is_empty, c.of-reader.ensures) at c.judge_and_flush-judged.ensures in
+    let found = c.found_in.result in
     inr record {
       reader = begun.reader;
       buffer = begun.out;
@@ -15,6 +18,7 @@ returns-in-Ok g c =
       begins = begins;
       judged = c.judge_and_flush-judged.result;
       is_judged = rw c.taken_back.ensures.writer is_judged;
+      found = found;
       failed = _;
-      ends = c.taken_back.ensures.end;
+      ends = c.taken_back.ensures.end ∙ ap (told_after _) (c.with_header-judged.ensures ∙ ap (λ file. with_header file found c.judge_and_flush-judged.result) c.in-Ok.ensures.file);
     }

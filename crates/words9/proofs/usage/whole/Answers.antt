@@ -20,4 +20,5 @@ returns c =
     let with_JsonRun = c.in_ok-command-11.ensures ∙ ap (λ app. with_verb names app verb.JsonRun) with_JsonExplain in
     let with_JsonWhy = c.in_ok-command-12.ensures ∙ ap (λ app. with_verb names app verb.JsonWhy) with_JsonRun in
     let with_Clock = c.in_ok-command-13.ensures ∙ ap (λ app. with_verb names app verb.Clock) with_JsonWhy in
-    IfOk-weaker c.with_verb-14.result _ _ (λ command is. is ∙ ap (λ app. with_verb names app verb.Info) with_Clock) c.with_verb-14.ensures
+    let with_Info = c.in_ok-command-14.ensures ∙ ap (λ app. with_verb names app verb.Info) with_Clock in
+    IfOk-weaker c.with_verb-15.result _ _ (λ command is. is ∙ ap (λ app. with_verb names app verb.Try) with_Info) c.with_verb-15.ensures

@@ -1,0 +1,45 @@
+-- The answers to one more of the terms, and what is told of them.
+use Rattle.std.proofs.Common.{[], ap, append_assoc, Err, get_or, inl, length, List, None, refl, Some, sym, take, ℕ, Option, ◌+◌, ◌++◌, ◌<◌, ◌∙◌, ◌∷◌, ◌≡◌}
+use Rattle.std.proofs.lemmas.List.{take_more}
+use Rattle.std.specs.Io.KnownBytes.{Keeps}
+use Rattle.deck9.specs.declared.deck.Deck.{Deck}
+use Rattle.deck9.specs.declared.profile.Profile.{Profile}
+use Rattle.report9.specs.declared.error.JudgeError.TheVariants as error
+use Rattle.report9.specs.declared.verdict.Scope.{Scope}
+use Rattle.program9.specs.declared.trying.answer.Answer.{Answer}
+use Rattle.program9.specs.declared.trying.terms.Terms.{Terms}
+use Rattle.program9.specs.Trying.{AreAnswers, IsChecked, MayTell, TellsAnswers, profile_with}
+
+with_last : (scope : Scope) (deck : Option Deck) (text : List ℕ) (ts : List Terms) (answers : List Answer) (t : Terms) (a : Answer)
+    → AreAnswers scope deck text ts answers → a.terms ≡ t → IsChecked scope (profile_with deck t) text a.ended
+    → AreAnswers scope deck text (ts ++ t ∷ []) (answers ++ a ∷ [])
+with_last scope deck text [] [] t a are same is = (same, is, tt)
+with_last scope deck text (u ∷ ts) (first ∷ answers) t a (at, checked, are) same is = (at, checked, with_last scope deck text ts answers t a are same is)
+with_last scope deck text [] (first ∷ answers) t a are same is = absurd are
+with_last scope deck text (u ∷ ts) [] t a are same is = absurd are
+
+pub one_more : (scope : Scope) (deck : Option Deck) (text : List ℕ) (all : List Terms) (i : ℕ) (d : Terms) (answers : List Answer) (a : Answer)
+    → i < length all → AreAnswers scope deck text (take i all) answers → a.terms ≡ get_or all i d → IsChecked scope (profile_with deck (get_or all i d)) text a.ended
+    → AreAnswers scope deck text (take (i + 1) all) (answers ++ a ∷ [])
+one_more scope deck text all i d answers a lt are same is = rw (take_more all i d lt) (with_last scope deck text (take i all) answers (get_or all i d) a are same is)
+
+keeps_same : (known : Option (List ℕ)) → Keeps known known
+keeps_same None = tt
+keeps_same (Some bytes) = refl
+
+-- where memory is refused, nothing is written
+pub unkept : (scope : Scope) (own : Profile) (capture old : Option (List ℕ)) → TellsAnswers scope own capture old (Err error.OutOfMemory) old
+unkept scope own capture old = inl (inl refl, keeps_same old)
+
+pub untold : (answers : List Answer) (old : Option (List ℕ)) → MayTell answers (Err error.OutOfMemory) old old
+untold answers old = inl (refl, keeps_same old)
+
+-- three pieces that are put one after another
+pub three_pieces : (old t u v first second last : List ℕ) → first ≡ old ++ t → second ≡ first ++ u → last ≡ second ++ v → last ≡ old ++ ((t ++ u) ++ v)
+three_pieces old t u v first second last is then_is at_last =
+    at_last ∙ ap (λ xs. xs ++ v) (then_is ∙ ap (λ xs. xs ++ u) is) ∙ append_assoc (old ++ t) u v ∙ append_assoc old t (u ++ v)
+    ∙ ap (λ xs. old ++ xs) (sym (append_assoc t u v))
+
+-- four lists, parted otherwise
+pub four_pieces : (d c w n : List ℕ) → d ++ (c ++ (w ++ n)) ≡ ((d ++ c) ++ w) ++ n
+four_pieces d c w n = sym (append_assoc d c (w ++ n)) ∙ sym (append_assoc (d ++ c) w n)

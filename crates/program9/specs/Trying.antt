@@ -1,0 +1,213 @@
+-- One capture, asked with each frame rate, without hands and with, and without the sheet and with it, where there is one.
+use Rattle.std.specs.Prelude.{◌≡◌, ◌⊎◌, ◌++◌, ◌∷◌, ◌==◌, ⊤, ℕ, Bool, true, false, if◌then◌else◌, List, [], Option, Some, None, Result, Ok, Err, IfSome, codes}
+use Rattle.std.specs.Fmt.{decimal}
+use Rattle.std.specs.Io.KnownBytes.{Keeps}
+use Rattle.std.specs.List.{flat_map, list_all, list_any}
+use Rattle.tc25.specs.declared.rate.Rate.{Rate}
+use Rattle.tc25.specs.declared.rate.Rate.TheVariants as rate
+use Rattle.capture9.specs.declared.error.CaptureKind.{CaptureKind}
+use Rattle.capture9.specs.declared.error.CaptureKind.TheVariants as kind
+use Rattle.capture9.specs.Fields.{greatest_limit}
+use Rattle.capture9.specs.Rows.{rows_within}
+use Rattle.deck9.specs.declared.deck.Deck.{Deck}
+use Rattle.deck9.specs.declared.profile.Profile.{Profile}
+use Rattle.deck9.specs.declared.state.Hands.{Hands}
+use Rattle.deck9.specs.declared.state.Hands.TheVariants as hands
+use Rattle.report9.specs.declared.error.JudgeError.{JudgeError}
+use Rattle.report9.specs.declared.error.JudgeError.TheVariants as error
+use Rattle.report9.specs.declared.totals.Totals.{Totals}
+use Rattle.report9.specs.declared.verdict.Beginning.{Beginning}
+use Rattle.report9.specs.declared.verdict.Extent.{Extent}
+use Rattle.report9.specs.declared.verdict.Extent.TheVariants.{FirstBreak, WholeCapture}
+use Rattle.report9.specs.declared.verdict.Scope.{Scope}
+use Rattle.report9.specs.declared.verdict.Verdict.{Verdict}
+use Rattle.report9.specs.declared.verdict.Verdict.TheVariants as verdict
+use Rattle.report9.specs.declared.verdict.View.TheVariants as view
+use Rattle.report9.specs.Lines.{line_of, line_of_totals}
+use Rattle.report9.specs.Writing.{Writes}
+use Rattle.judge9.specs.Judging.{Answers}
+use Rattle.judge9.specs.Report.{Told, by_totals}
+use Rattle.view9.specs.declared.seen.Ending.{Ending}
+use Rattle.view9.specs.declared.seen.Ending.TheVariants as ending
+use Rattle.program9.specs.declared.ending.Message.{Message}
+use Rattle.program9.specs.declared.ending.Message.TheVariants as message
+use Rattle.program9.specs.declared.ending.Outcome.{Outcome}
+use Rattle.program9.specs.declared.trying.answer.Answer.{Answer}
+use Rattle.program9.specs.declared.trying.terms.Terms.{Terms}
+use Rattle.program9.specs.Opening.{no_memory}
+use Rattle.program9.specs.Outcome.{outcome_made}
+use Rattle.program9.specs.Word.{word_of}
+
+-- ---- what is asked with
+
+-- at a rate, without the sheet or with it: without hands and with
+abbrev pub both : Rate → Bool → List Terms
+both rate has_sheet =
+    record { rate = rate; has_sheet = has_sheet; hands = hands.None } ∷ record { rate = rate; has_sheet = has_sheet; hands = hands.Allowed } ∷ []
+
+-- at a rate: without the sheet, and with it where there is one
+abbrev pub terms_at : Option Deck → Rate → List Terms
+terms_at None rate = both rate false
+terms_at (Some deck) rate = both rate false ++ both rate true
+
+-- the other three rates
+abbrev pub others_than : Rate → List Rate
+others_than rate.Fps25 = rate.Fps24 ∷ rate.Fps30 ∷ rate.DropFrame ∷ []
+others_than rate.Fps24 = rate.Fps25 ∷ rate.Fps30 ∷ rate.DropFrame ∷ []
+others_than rate.Fps30 = rate.Fps25 ∷ rate.Fps24 ∷ rate.DropFrame ∷ []
+others_than rate.DropFrame = rate.Fps25 ∷ rate.Fps24 ∷ rate.Fps30 ∷ []
+
+-- at each of these rates
+abbrev pub terms_at_each : Option Deck → List Rate → List Terms
+terms_at_each deck [] = []
+terms_at_each deck (r ∷ rates) = terms_at deck r ++ terms_at_each deck rates
+
+-- all, in the order of the lines: one's own rate comes first
+abbrev pub all_terms : Profile → List Terms
+all_terms own = terms_at_each own.deck (own.rate ∷ others_than own.rate)
+
+-- the profile that these terms ask for, where the sheet says this of the deck
+abbrev pub profile_with : Option Deck → Terms → Profile
+profile_with deck t = record { rate = t.rate; hands = t.hands; deck = if t.has_sheet then deck else None }
+
+-- the word of a rate
+abbrev pub rate_text : Rate → List ℕ
+rate_text rate.Fps24 = codes "24"
+rate_text rate.Fps25 = codes "25"
+rate_text rate.Fps30 = codes "30"
+rate_text rate.DropFrame = codes "29.97df"
+
+abbrev pub hands_text : Hands → List ℕ
+hands_text hands.None = []
+hands_text hands.Allowed = codes " --hands"
+
+-- the options that ask so; that of the sheet stands without its file
+abbrev pub words_of : Terms → List ℕ
+words_of t = codes "--rate " ++ rate_text t.rate ++ (if t.has_sheet then codes " --deck" else []) ++ hands_text t.hands
+
+-- ---- what is answered
+
+-- how a judging to the first break, and one over all parts, ends
+abbrev pub by_verdict : Result Verdict JudgeError → Result Ending JudgeError
+by_verdict (Ok verdict) = Ok (ending.Verdict verdict)
+by_verdict (Err e) = Err e
+
+abbrev pub by_parts : Result Totals JudgeError → Result Ending JudgeError
+by_parts (Ok totals) = Ok (ending.Totals totals)
+by_parts (Err e) = Err e
+
+-- a judging of this text, as `check` judges it, ends so: to the first break it is the right verdict, and over all parts the right
+-- totals
+abbrev pub IsCheckedFor : Extent → Beginning → Profile → List ℕ → Result Ending JudgeError → Type 0
+IsCheckedFor FirstBreak beginning profile text ended =
+    (judged : Result Verdict JudgeError) × Answers beginning profile (Some text) judged × (ended ≡ by_verdict judged)
+IsCheckedFor WholeCapture beginning profile text ended =
+    (judged : Result Totals JudgeError)
+    × Told view.Verdict (record { extent = WholeCapture; beginning = beginning }) profile (Some (rows_within greatest_limit text)) (by_totals judged) None None
+    × (ended ≡ by_parts judged)
+
+abbrev pub IsChecked : Scope → Profile → List ℕ → Result Ending JudgeError → Type 0
+IsChecked scope profile text ended = IsCheckedFor scope.extent scope.beginning profile text ended
+
+-- these are the answers to these terms, one by one
+abbrev pub AreAnswers : Scope → Option Deck → List ℕ → List Terms → List Answer → Type 0
+AreAnswers scope deck text [] [] = ⊤
+AreAnswers scope deck text (t ∷ ts) (a ∷ answers) = (a.terms ≡ t) × IsChecked scope (profile_with deck t) text a.ended × AreAnswers scope deck text ts answers
+AreAnswers scope deck text _ _ = ⊥
+
+-- ---- what is written
+
+-- a yes, and of totals that no part breaks
+abbrev pub is_yes : Result Ending JudgeError → Bool
+is_yes (Ok (ending.Verdict (verdict.Yes records exchanges tail))) = true
+is_yes (Ok (ending.Verdict (verdict.No at reason))) = false
+is_yes (Ok (ending.Totals totals)) = totals.breaks == 0
+is_yes (Err e) = false
+
+-- neither a verdict nor totals
+abbrev pub is_refused : Result Ending JudgeError → Bool
+is_refused (Ok end) = false
+is_refused (Err e) = true
+
+-- what stands first on standard error where the reader failed at a row
+abbrev pub first_line_of_read : ℕ → List ℕ
+first_line_of_read row = codes "read fault at row " ++ decimal row ++ codes "\n"
+
+-- the same where a row is bad, and this is the word for what is wrong
+abbrev pub first_line_of_row : List ℕ → ℕ → List ℕ
+first_line_of_row word row = codes "unreadable at row " ++ decimal row ++ codes ": " ++ word ++ codes "\n"
+
+-- the same after a refusal of this kind at this row
+abbrev pub first_line_of_fault : CaptureKind → ℕ → List ℕ
+first_line_of_fault kind.Read row = first_line_of_read row
+first_line_of_fault kind.OutOfMemory row = codes "out of memory\n"
+first_line_of_fault k row = first_line_of_row (word_of k) row
+
+-- the same after any refusal
+abbrev pub first_line_after : JudgeError → List ℕ
+first_line_after (error.Capture e) = first_line_of_fault e.kind e.row
+first_line_after error.Write = codes "write fault\n"
+first_line_after error.OutOfMemory = codes "out of memory\n"
+
+-- what `check` writes last, or what stands first on standard error
+abbrev pub said_of : Result Ending JudgeError → List ℕ
+said_of (Ok (ending.Verdict verdict)) = line_of verdict
+said_of (Ok (ending.Totals totals)) = line_of_totals totals
+said_of (Err e) = first_line_after e
+
+abbrev pub line_of_answer : Answer → List ℕ
+line_of_answer a = words_of a.terms ++ codes ": " ++ said_of a.ended
+
+abbrev pub lines_of : List Answer → List ℕ
+lines_of answers = flat_map line_of_answer answers
+
+-- ---- how it ends
+
+-- all were refused
+abbrev pub all_refused : List Answer → Bool
+all_refused answers = list_all (λ a. is_refused a.ended) answers
+
+-- the end where all were refused: that of the first. There always is one
+abbrev pub end_of_refused : List Answer → Outcome
+end_of_refused [] = no_memory
+end_of_refused (first ∷ others) = outcome_made first.ended
+
+-- the status where one at least was not: 0 where one is a yes
+abbrev pub status_of : List Answer → ℕ
+status_of answers = if list_any (λ a. is_yes a.ended) answers then 0 else 1
+
+-- what may be said besides: which terms make it a yes, and what the capture shows of itself. What that is is tested
+abbrev pub IsHint : Message → Type 0
+IsHint message.Nothing = ⊤
+IsHint (message.Hints lines) = ⊤
+IsHint _ = ⊥
+
+-- so the lines of these answers were written, where not all were refused
+abbrev pub EndsWritten : List Answer → Result Outcome JudgeError → Type 0
+EndsWritten answers (Ok end) = (said : Message) × IsHint said × (end ≡ record { status = status_of answers; message = said })
+EndsWritten answers (Err e) = e ≡ error.Write
+
+-- where all were refused, the end is that of the first, and nothing is written; else a line for each is
+abbrev pub WritesAnswers : Bool → List Answer → Result Outcome JudgeError → Option (List ℕ) → Option (List ℕ) → Type 0
+WritesAnswers true answers told old all = (told ≡ Ok (end_of_refused answers)) × Keeps old all
+WritesAnswers false answers told old all = EndsWritten answers told × Writes (lines_of answers) told old all
+
+-- the same, or memory was refused for the lines, and nothing is written
+abbrev pub MayTell : List Answer → Result Outcome JudgeError → Option (List ℕ) → Option (List ℕ) → Type 0
+MayTell answers told old all = ((told ≡ Err error.OutOfMemory) × Keeps old all) ⊎ WritesAnswers (all_refused answers) answers told old all
+
+-- the capture was kept and asked with all terms, by one whose own rate and sheet these are, and told so
+pub record AsksEach (scope : Scope) (own : Profile) (capture : Option (List ℕ)) (old : Option (List ℕ)) (told : Result Outcome JudgeError) (all : Option (List ℕ)) : Type 0 where
+  pub text : List ℕ
+  pub is_text : IfSome capture (λ known. text ≡ known)
+  pub answers : List Answer
+  pub are_answers : AreAnswers scope own.deck text (all_terms own) answers
+  pub tells : MayTell answers told old all
+
+-- the capture could not be read to its end, or memory was refused for it or for its answers
+abbrev pub IsUnkept : Result Outcome JudgeError → Type 0
+IsUnkept told = (told ≡ Err error.OutOfMemory) ⊎ (told ≡ Ok (record { status = 4; message = message.TextFault }))
+
+-- a capture is asked with all terms: how that is told, and what the writer holds before and after
+abbrev pub TellsAnswers : Scope → Profile → Option (List ℕ) → Option (List ℕ) → Result Outcome JudgeError → Option (List ℕ) → Type 0
+TellsAnswers scope own capture old told all = (IsUnkept told × Keeps old all) ⊎ AsksEach scope own capture old told all

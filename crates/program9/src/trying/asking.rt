@@ -1,0 +1,95 @@
+//! A capture that is asked with all terms, one after another.
+ghost use Rattle.std.specs.Prelude.{◌≡◌, None, IfOk};
+ghost use Rattle.program9.specs.Trying.{AreAnswers, IsChecked, all_terms, profile_with};
+
+use crate::trying::answer::{Answer, check};
+use crate::trying::every_terms::every_terms;
+use crate::trying::terms::Terms;
+use deck9::{Hands, Profile};
+use report9::{JudgeError, Scope};
+use std::alloc::{AllocError, Global};
+use tc25::Rate;
+use view9::Ending;
+
+/// A capture that is asked.
+#[derive(Drop)]
+struct Asking<'a> {
+    alloc: Global,
+    /// The text of the capture.
+    text: &'a [u8],
+    scope: Scope,
+    /// A deck that does what the rules say of every deck, at the rate and with the hands that were asked with last.
+    plain: Profile,
+    /// The same of one that does what the sheet says, where there is one.
+    with_sheet: Profile,
+}
+
+/// The answers to all terms, in the order of the lines, of one whose own rate and sheet these are.
+pub(crate) fn answers_to(
+    alloc: Global,
+    text: &[u8],
+    scope: Scope,
+    own: Profile,
+) -> Result<Vec<Answer>, AllocError>
+    ensures { IfOk result (λ answers. AreAnswers scope own.deck text.now (all_terms own) answers.items) }
+{
+    let all = every_terms(alloc, &own)?;
+    let mut asking = Asking {
+        alloc,
+        text,
+        scope,
+        plain: Profile::at(Rate::Fps25, Hands::None),
+        with_sheet: own,
+    };
+    asking.ask_with_each(all.as_slice())
+}
+
+impl Asking<'_> {
+    /// Asks with each of these terms.
+    fn ask_with_each(&mut self, all: &[Terms]) -> Result<Vec<Answer>, AllocError>
+        requires { self.old.plain.deck ≡ None }
+        ensures { IfOk result (λ answers. AreAnswers self.old.scope self.old.with_sheet.deck self.old.text.now all.now answers.items) }
+    {
+        let mut answers = Vec::new(self.alloc);
+        for terms in all {
+            let answer = self.ask(*terms);
+            answers.push(answer)?;
+        }
+        Ok(answers)
+    }
+
+    /// Asks with these terms.
+    fn ask(&mut self, terms: Terms) -> Answer
+        requires { self.old.plain.deck ≡ None }
+        ensures terms { result.terms ≡ terms }
+        ensures checked { IsChecked self.old.scope (profile_with self.old.with_sheet.deck terms) self.old.text.now result.ended }
+        ensures plain { self.new.plain.deck ≡ None }
+        ensures deck { self.new.with_sheet.deck ≡ self.old.with_sheet.deck }
+        ensures scope { self.new.scope ≡ self.old.scope }
+        ensures text { self.new.text ≡ self.old.text }
+    {
+        let (alloc, text, scope) = (self.alloc, self.text, self.scope);
+        let ended = if terms.has_sheet {
+            check_with(alloc, text, scope, &mut self.with_sheet, terms)
+        } else {
+            check_with(alloc, text, scope, &mut self.plain, terms)
+        };
+        Answer { terms, ended }
+    }
+}
+
+/// Judges the text of a capture as `check` does, of a deck with the rate and the hands of these terms.
+fn check_with(
+    alloc: Global,
+    text: &[u8],
+    scope: Scope,
+    profile: &mut Profile,
+    terms: Terms,
+) -> Result<Ending, JudgeError>
+    ensures checked { IsChecked scope (record { rate = terms.rate; hands = terms.hands; deck = profile.old.deck }) text.now result }
+    ensures deck { profile.new.deck ≡ profile.old.deck }
+{
+    profile.rate = terms.rate;
+    profile.hands = terms.hands;
+    check(alloc, text, scope, profile)
+}

@@ -1,0 +1,157 @@
+//! What is said below the answers, on standard error: with which terms it is a yes, and which signs of the capture bear on that.
+ghost use Rattle.std.specs.Prelude.{IfOk};
+ghost use Rattle.program9.specs.Trying.{IsHint};
+
+use crate::ending::Message;
+use crate::trying::answer::Answer;
+use crate::trying::terms::Terms;
+use capture9::Records;
+use info9::{Seeming, Sign, Signs};
+use report9::{Beginning, put_text};
+use std::alloc::{AllocError, Global};
+use tc25::Rate;
+
+/// So many records are looked at for signs: enough for all that bear on the answers, and quickly read.
+const MOST_LOOKED_AT: u32 = 400_000;
+
+/// The lines, or nothing: which terms make it a yes where the first do not, and the signs that bear on the answers.
+pub(crate) fn hints_of(
+    alloc: Global,
+    text: &[u8],
+    beginning: Beginning,
+    answers: &[Answer],
+) -> Result<Message, AllocError>
+    ensures { IfOk result IsHint }
+{
+    let mut lines = Vec::new(alloc);
+    let rate = put_best(&mut lines, answers)?;
+    let signs = signs_of(alloc, text, beginning, rate);
+    put_signs(&mut lines, &signs)?;
+    Ok(message_of(lines))
+}
+
+/// The lines as what is said; nothing where there are none.
+fn message_of(lines: Vec<u8>) -> Message
+    ensures { IsHint result }
+{
+    let mut lines = lines;
+    lines.pop(); // whoever prints the message ends its last line
+    if lines.is_empty() {
+        return Message::Nothing;
+    }
+    match String::from_utf8(lines) {
+        Ok(lines) => Message::Hints(lines),
+        Err(_) => Message::Nothing,
+    }
+}
+
+/// Puts which terms make it a yes, unless the first do: the rate of these, or one's own.
+fn put_best(lines: &mut Vec<u8>, answers: &[Answer]) -> Result<Rate, AllocError> {
+    let Some(own) = answers.first() else {
+        return Ok(Rate::Fps25);
+    };
+    let [best, other] = best_terms(answers);
+    match best {
+        Some(best) if !own.is_yes() => {
+            put_yes(lines, best, other)?;
+            Ok(best.rate)
+        }
+        _ => Ok(own.terms.rate),
+    }
+}
+
+/// Puts the terms of a yes.
+fn put_yes(lines: &mut Vec<u8>, best: Terms, other: Option<Terms>) -> Result<(), AllocError> {
+    put_text(lines, "yes with ")?;
+    best.put(lines)?;
+    if let Some(other) = other {
+        put_text(lines, ", or with ")?;
+        other.put(lines)?;
+    }
+    put_text(lines, "\n")
+}
+
+/// Puts the signs that bear on the answers.
+fn put_signs(lines: &mut Vec<u8>, signs: &Signs) -> Result<(), AllocError> {
+    for found in signs.signs() {
+        if let Some(sign) = found {
+            put_sign(lines, &sign)?;
+        }
+    }
+    Ok(())
+}
+
+/// Puts a sign that bears on the answers.
+fn put_sign(lines: &mut Vec<u8>, sign: &Sign) -> Result<(), AllocError> {
+    if bears_on_answers(&sign.what) {
+        sign.put(lines)?;
+    }
+    Ok(())
+}
+
+/// Whether the answers follow from what was seen, and not from the deck.
+fn bears_on_answers(what: &Seeming) -> bool {
+    matches!(
+        what,
+        Seeming::WrongRate { .. } | Seeming::WiresSwapped { .. } | Seeming::BeginsInside
+    )
+}
+
+/// What the first records of a capture show, where times are read at this rate.
+fn signs_of(alloc: Global, text: &[u8], beginning: Beginning, rate: Rate) -> Signs {
+    let mut signs = Signs::new(rate, beginning);
+    let mut records = Records::new(alloc, text, MOST_LOOKED_AT);
+    for _ in 0..MOST_LOOKED_AT {
+        match records.next() {
+            Ok(Some(record)) => signs.take(&record),
+            _ => break,
+        }
+    }
+    drop(records);
+    signs
+}
+
+/// The terms of a yes that need the least: neither sheet nor hand; else a hand alone and the sheet alone, the line that comes first
+/// before the other; else both.
+fn best_terms(answers: &[Answer]) -> [Option<Terms>; 2] {
+    if let Some(plain) = best_yes(answers, 0, None) {
+        return [Some(plain), None];
+    }
+    match best_yes(answers, 1, None) {
+        Some(one) => [Some(one), best_yes(answers, 1, Some(!one.has_sheet))],
+        None => [best_yes(answers, 2, None), None],
+    }
+}
+
+/// The terms of a yes that needs so many of a hand and the sheet, and the sheet or not where that is said: at one's own rate, or else at
+/// the rate that comes furthest without either.
+fn best_yes(answers: &[Answer], needs: u8, has_sheet: Option<bool>) -> Option<Terms> {
+    let mut best = None;
+    let mut furthest = 0;
+    for answer in answers {
+        let terms = answer.terms;
+        let fits = terms.needs() == needs
+            && has_sheet.unwrap_or(terms.has_sheet) == terms.has_sheet;
+        let reach = reach_at(answers, terms.rate);
+        if fits && answer.is_yes() && (best.is_none() || reach > furthest) {
+            best = Some(terms);
+            furthest = reach;
+        }
+    }
+    best
+}
+
+/// How far judging comes at a rate with neither a hand nor the sheet. At one's own rate, which is asked with first, it counts as
+/// furthest.
+fn reach_at(answers: &[Answer], rate: Rate) -> u64 {
+    match answers.first() {
+        Some(own) if own.terms.rate == rate => return u64::MAX,
+        _ => {}
+    }
+    for answer in answers {
+        if answer.terms.rate == rate && answer.terms.needs() == 0 {
+            return answer.reach();
+        }
+    }
+    0
+}

@@ -1,0 +1,53 @@
+//! What a capture is asked with.
+ghost use Rattle.std.specs.Prelude.{◌≡◌, ◌++◌, OnOk};
+ghost use Rattle.program9.specs.Trying.{rate_text, words_of};
+
+use deck9::Hands;
+use report9::put_text;
+use std::alloc::AllocError;
+use tc25::Rate;
+
+/// What a capture is asked with.
+#[derive(Clone, Copy, Debug, PartialEq, Eq)]
+pub struct Terms {
+    /// The rate of the deck's time code.
+    pub rate: Rate,
+    /// Whether the deck does what the sheet says.
+    pub has_sheet: bool,
+    /// Whether somebody may have touched the deck's panel.
+    pub hands: Hands,
+}
+
+impl Terms {
+    /// Puts the options that ask so, of which that of the sheet stands without its file.
+    pub(crate) fn put(&self, text: &mut Vec<u8>) -> Result<(), AllocError>
+        ensures { OnOk result (text.new.items ≡ text.old.items ++ words_of self.now) }
+    {
+        put_text(text, "--rate ")?;
+        put_text(text, rate_text(self.rate))?;
+        if self.has_sheet {
+            put_text(text, " --deck")?;
+        }
+        if self.hands == Hands::Allowed {
+            put_text(text, " --hands")?;
+        }
+        Ok(())
+    }
+
+    /// How many of these the answer needs: the sheet, and a hand.
+    pub(crate) fn needs(&self) -> u8 {
+        u8::from(self.has_sheet) + u8::from(self.hands == Hands::Allowed)
+    }
+}
+
+/// The word of a rate on the command line.
+fn rate_text<'a>(rate: Rate) -> &'a str
+    ensures { result.now ≡ rate_text rate }
+{
+    match rate {
+        Rate::Fps24 => "24",
+        Rate::Fps25 => "25",
+        Rate::Fps30 => "30",
+        Rate::DropFrame => "29.97df",
+    }
+}
