@@ -38,8 +38,8 @@ name_files() {
         case $options$word in
             true--) options=false ;;
             true--hands | true--sync | true--all | true--line-buffered | true--bytes | true--seconds) ;;
-            true--rate=* | true--from=* | true--to=*) ;;
-            true--rate | true--deck | true--from | true--to) awaits=$word ;;
+            true--rate=* | true--from=* | true--to=* | true--at=* | true--width=*) ;;
+            true--rate | true--deck | true--from | true--to | true--at | true--width) awaits=$word ;;
             true--deck=*) name_file "$at" --deck= "${word#--deck=}" ;;
             true-?*) reads_input=false ;;
             *) reads_input=false; name_file "$at" '' "$word" ;;
@@ -51,7 +51,7 @@ name_file() {
     case $3 in '' | /*) ;; *) named+=("$3"); words[$1]=$2$PWD/$3 ;; esac
 }
 case ${1-} in
-    check | explain | run | why | digest | delays | motion | json | clock | info | try) name_files ;;
+    check | explain | run | why | digest | delays | motion | json | clock | info | try | picture) name_files ;;
     *) reads_input=false ;;
 esac
 

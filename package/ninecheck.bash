@@ -10,7 +10,7 @@ _ninecheck_options() {
         'json check' | 'json why') echo "$judging --from --to --help" ;;
         why) echo "$judging --quiet --help" ;;
         run | 'json run') echo '--hands --sync --rate --deck --help' ;;
-        picture) echo "--at --width $judging --help" ;;
+        picture) echo "$judging --at --width --help" ;;
         touches) echo '--sync --rate --deck --help' ;;
         page) echo '--hands --sync --rate --deck --help' ;;
         try) echo '--all --sync --rate --deck --help' ;;

@@ -158,7 +158,7 @@ ninecheck json run -|--deck --hands --help --rate --sync -h|--deck --hands --hel
 ninecheck json why -|--all --deck --from --hands --help --line-buffered --rate --sync --to -h|--all --deck --from --hands --help --line-buffered --rate --sync --to -h
 ninecheck clock --s|--seconds|--seconds
 ninecheck info -|--help --rate --sync -h|--help --rate --sync -h
-ninecheck picture --w|--width|--width
+ninecheck picture -|--all --at --deck --hands --help --line-buffered --rate --sync --width -h|--all --at --deck --hands --help --line-buffered --rate --sync --width -h
 ninecheck convert |log saleae sigrok|log saleae sigrok
 ninecheck convert log --unit |ms us|ms us
 ninecheck check --a|--all|--all
@@ -227,6 +227,8 @@ complete_words ninecheck explain --
 expect 'options are offered where the judging can go on' 0 '--bytes --hands --sync --all --line-buffered --rate --deck --help' ''
 complete_words ninecheck motion --
 expect 'options of what is made of a capture are offered' 0 '--bytes --hands --sync --all --line-buffered --rate --deck --from --to --help' ''
+complete_words ninecheck picture --
+expect 'options of a picture are offered' 0 '--hands --sync --all --line-buffered --rate --deck --at --width --help' ''
 complete_words ninecheck json why --
 expect 'options of objects are offered' 0 '--hands --sync --all --line-buffered --rate --deck --from --to --help' ''
 complete_words ninecheck json run --
@@ -255,7 +257,7 @@ expect 'the man page' 0 '' ''
 
 # Each subcommand and option that the program's help names stands in the man page and in each completion.
 for word in $(./ninecheck --help | awk '/^(Commands|For the bench):/ { on = 1; next } /^$/ { on = 0 } on { print $1 }') \
-    quiet hands sync all rate deck bytes from to seconds version; do
+    quiet hands sync all rate deck bytes from to seconds at width version; do
     for file in package/ninecheck.1 package/ninecheck.bash package/ninecheck.zsh package/ninecheck.fish; do
         holds "$word in $file" grep -qw -- "$word" "$file"
     done

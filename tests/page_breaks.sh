@@ -21,7 +21,6 @@ in_249_on='C 60 10 70 D 74 10 24 09 00 10 C1'
 in_at_11='C 60 10 70 D 74 10 00 00 00 11 95'
 
 page=$(files_of page)
-picture=$(files_of picture)
 
 # ask CAPTURE [WORDS...]: has the program say what a page is made of: $work/explained and $work/why.
 ask() {
@@ -195,15 +194,14 @@ picture_at() {
 }
 
 # has_pictures NAME [MOST]: each break of the section, or so many of them, has the picture that `picture` makes of it. Of two
-# breaks at one record that makes the first alone.
+# breaks at one record that makes the first alone, and of replies that contradict one another it makes another one.
 has_pictures() {
     local record pictures=0
-    "$program" check --all "$capture" > "$work/checked"
-    for record in $(sed -n 's/^no at record \([0-9]*\): .*/\1/p' "$work/checked" | uniq | head -n "${2-100}"); do
+    for record in $("$program" check --all "$capture" | sed -n 's/^no at record \([0-9]*\): \(..\) .*/\1 \2/p' |
+        sort -u -n -s -k 1,1 | head -n "${2-100}" | sed -n '/M1/!s/ .*//p'); do
         pictures=$((pictures + 1))
         # The ground and the two headlines are not on the page.
-        # shellcheck disable=SC2086
-        $awk -v capture="$capture" -v at="$record" $picture < "$work/checked" | without_looks | sed 1,3d > "$work/want"
+        "$program" picture --all --at "$record" "$capture" | without_looks | sed 1,3d > "$work/want"
         picture_at "$record" | without_looks > "$work/made"
         if [ ! -s "$work/made" ] || ! cmp -s "$work/made" "$work/want"; then
             fail "$awk: $1: the picture of record $record"
@@ -223,7 +221,7 @@ neighbours() {
 $late $late $play D 10 $late C 74 20 01 21 $ack D 10 $play
 C 61 20 01 82 D 71 C 74 $play C 20 01 21 +12000 D 20 $play
 C 61 20 01 82 D 71 20 C 20 01 21 20 01 21 +12000 20 01 21 +12000 D 10 01 11 +15000 C 61 20
-$remote $preset $in_at_11 $remote $preset $in_at_11 $play
+$remote $preset $in_at_11 $remote $preset $in_at_11 $play D 10
 $(repeated 60 "$polled_time") D 10 D 10 $(repeated 12 "$late") C 61 20 D 10 $(repeated 30 "$late")
 D 10 01 11 $play
 END

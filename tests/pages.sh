@@ -58,7 +58,7 @@ text;docs/OUTPUT.md;record N: goal G
 text;docs/OUTPUT.md;records A to B at T: COMMAND BYTES -> REPLY
 text;docs/OUTPUT.md;records A to B at T: COMMAND BYTES
 text;docs/OUTPUT.md;records 1067 to 1070 at 1999300:
-refuse_view;docs/VIEWS.md;ninecheck picture: line 1:"
+refuse_view;docs/VIEWS.md;nothing to draw: the verdict is a yes"
 
 # The first builds nothing here, since the program is there; tests/unbuilt.sh has it where it is not. The second proves, which
 # tests/make.sh has with a stand-in, and the third is the gate itself. The fourth installs below a root of its own.

@@ -1,7 +1,7 @@
-"""Checks the pictures that `ninecheck picture` draws: that each awk draws the same, that the drawn bytes are those of the capture,
-that the record in question and the measured time stand out, and that no text lies on another or on a byte; that the rows of a
-contradiction are those of `why`; that of several breaks the right one is drawn; and of the picture of each reason that rsvg-convert
-renders it, with the record in question on it."""
+"""Checks the pictures that `ninecheck picture` draws: that the drawn bytes are those of the capture, that the record in question and
+the measured time stand out, and that no text lies on another or on a byte; that the rows of a contradiction are those of `why`; that
+of several breaks the right one is drawn; what is refused; and of the picture of each reason that it is the stored one, and that
+rsvg-convert renders it, with the record in question on it."""
 import math
 import os
 import random
@@ -14,9 +14,7 @@ import zlib
 import xml.etree.ElementTree as xml
 
 PROGRAM = os.environ.get('NINECHECK', 'crates/ninecheck/out/ninecheck')
-AWKS = ['mawk', 'gawk --posix', 'busybox awk']
-FILES = subprocess.run(['sh', '-c', '. view/files.sh; view_files picture'], capture_output=True, text=True).stdout.split()
-WIDTHS = [700, 1200]
+WIDTHS = ['700', '1200']
 LIMITS = {'P3': 9287, 'L1': 9287, 'L2': 9287, 'B3': 10287}
 SVG = '{http://www.w3.org/2000/svg}'
 passed = failed = 0
@@ -32,14 +30,23 @@ def judge(name, is_so):
 
 
 def run(words, text=''):
-    done = subprocess.run(words, input=text, capture_output=True, text=True)
+    done = subprocess.run([PROGRAM, *words], input=text, capture_output=True, text=True)
     return done.returncode, done.stdout, done.stderr
 
 
-def picture(awk, verdict, *settings):
-    given = [word for setting in settings for word in ('-v', setting)]
-    files = [word for file in FILES for word in ('-f', f'view/{file}.awk')]
-    return run([*awk.split(), *given, *files], verdict)
+def picture(name, path, *words):
+    """The picture of this capture, which there has to be; nothing is said of it."""
+    status, svg, err = run(['picture', *words, path])
+    judge(f'{name} is drawn: {status} {err}', status == 1 and svg.endswith('</svg>\n') and not err)
+    return svg or '<svg/>'
+
+
+def write_capture(path, rows):
+    open(path, 'w').write('time_us,wire,byte\n' + ''.join(row + '\n' for row in rows))
+
+
+def rows_of(path):
+    return [row for row in open(path).read().split('\n')[1:] if row]
 
 
 class Box:
@@ -153,7 +160,7 @@ def problems_of_rows(svg, why, rows):
         next_record += len(of_row)
         name = re.sub(r'((^| )[0-9A-F]{2})+$', '', asked)
         want(f'{name} is not named', name in told or (name == '' and asked[:5] in told))
-        reply_time = re.match(r'\d\d:\d\d:\d\d:\d\d', answered)
+        reply_time = re.match(r'\d\d:\d\d:\d\d[:;]\d\d', answered)
         want(f'{answered} is not told', not reply_time or any(text.endswith(' ' + reply_time[0]) for text in told))
         want(f'{says} is not told', not says or says in told)
         want(f'the time of record {began} is not told', f'{stamps[began - 1] / 1000:.3f} ms' in told)
@@ -171,28 +178,19 @@ def problems_of_rows(svg, why, rows):
     return problems
 
 
-def check_contradiction(name, path):
-    """The picture of what `why` says of a capture that is a no by M1."""
-    _, why, _ = run([PROGRAM, 'why', path])
-    rows = [row for row in open(path).read().split('\n')[1:] if row]
-    drawn = [picture(awk, why, f'capture={path}') for awk in AWKS]
-    judge(f'{name}: every awk draws the contradiction, and the same: {drawn[0][2]}', drawn[0][0] == 0 and all(one == drawn[0] for one in drawn))
-    problems = problems_of_rows(drawn[0][1], why, rows)
-    judge(f'{name}: {problems}', not problems)
-
-
-def check_capture(name, path, all_awks):
-    status, out, _ = run([PROGRAM, 'check', path])
-    if status != 1:
+def check_capture(name, path, *words):
+    """The picture of the first break: with a row for each reply where these contradict one another, and at each width else."""
+    verdict = run(['check', *words, path])[1].strip()
+    if not verdict.startswith('no'):
         return
-    rows = [row for row in open(path).read().split('\n')[1:] if row]
+    rows = rows_of(path)
+    if ': M1 ' in verdict:
+        problems = problems_of_rows(picture(name, path, *words), run(['why', *words, path])[1], rows)
+        judge(f'{name}: {problems}', not problems)
+        return
     for width in WIDTHS:
-        drawn = [picture(awk, out, f'capture={path}', f'width={width}') for awk in AWKS[:3 if all_awks else 1]]
-        judge(f'{name}, {width}: every awk draws it, and the same', drawn[0][0] == 0 and all(one == drawn[0] for one in drawn))
-        problems = problems_of(drawn[0][1], out.strip(), rows)
+        problems = problems_of(picture(name, path, *words, '--width', width), verdict, rows)
         judge(f'{name}, {width}: {problems}', not problems)
-    if ': M1 ' in out:
-        check_contradiction(f'{name}, why', path)
 
 
 def block(head, code, *data):
@@ -226,25 +224,19 @@ def drawn_capture(chance):
     for wire, byte in bytes_sent:
         rows.append(f'{now},{wire},{byte:02X}')
         now += chance.choice([287, 287, 300, 400, 0, 150, 2500, 9287, chance.choice([9288, 10288, 15000, 2000000])])
-    return 'time_us,wire,byte\n' + ''.join(row + '\n' for row in rows)
+    return rows
 
 
 def check_stored():
-    """The pictures under docs are those that their command makes."""
+    """The pictures under docs are those that the program draws of the examples, from a file and from standard input."""
     page = open('docs/VIEWS.md').read()
-    for line in open('examples/ANSWERS'):
-        name, status = line.split('|')[:2]
-        if status != '1':
-            continue
-        stored = f'docs/pictures/{name[:-4]}.svg'
-        if not os.path.exists(stored):
-            continue
-        _, out, _ = run([PROGRAM, 'check', f'examples/{name}'])
-        if ': M1 ' not in out:
-            judge(f'{stored} is as drawn', picture('mawk', out, f'capture=examples/{name}')[1] == open(stored).read())
-        _, out, _ = run([PROGRAM, 'why', f'examples/{name}'])
-        judge(f'{stored} is as drawn of why', picture('mawk', out, f'capture=examples/{name}')[1] == open(stored).read())
-        judge(f'{stored} is shown', f'pictures/{name[:-4]}.svg' in page)
+    for file in sorted(os.listdir('docs/pictures')):
+        example = f'examples/{file[:-4]}.csv'
+        want = (1, open(f'docs/pictures/{file}').read(), '')
+        judge(f'{file} is as drawn', run(['picture', example]) == want)
+        judge(f'{file} is as drawn of standard input', run(['picture'], open(example).read()) == want)
+        judge(f'{file} is as drawn with --line-buffered', run(['picture', '--line-buffered', example]) == want)
+        judge(f'{file} is shown', f'pictures/{file}' in page)
 
 
 def check_wires(work):
@@ -273,20 +265,19 @@ def check_wires(work):
                 now += 400
                 rows.append(f'{now},{wire},{word}')
         path = f'{work}/wires.csv'
-        open(path, 'w').write('time_us,wire,byte\n' + ''.join(row + '\n' for row in rows))
-        _, out, _ = run([PROGRAM, 'check', path])
-        judge(f'{name}: {out}', f': {reason} ' in out)
-        for awk in AWKS:
-            _, svg, _ = picture(awk, out, f'capture={path}')
-            names = [text.text for text in xml.fromstring(svg).findall(SVG + 'text') if text.get('text-anchor') == 'middle']
-            names = [text for text in names if re.fullmatch(r'\(?[A-Za-z ]{3,}\)?', text)]
-            judge(f'{awk}: {name}: {names}', sorted(names) == sorted(want))
-            problems = problems_of(svg, out.strip(), rows)
-            judge(f'{awk}: {name}: {problems}', not problems)
+        write_capture(path, rows)
+        verdict = run(['check', path])[1].strip()
+        judge(f'{name}: {verdict}', f': {reason} ' in verdict)
+        svg = picture(name, path)
+        names = [text.text for text in xml.fromstring(svg).findall(SVG + 'text') if text.get('text-anchor') == 'middle']
+        names = [text for text in names if re.fullmatch(r'\(?[A-Za-z ]{3,}\)?', text)]
+        judge(f'{name}: {names}', sorted(names) == sorted(want))
+        problems = problems_of(svg, verdict, rows)
+        judge(f'{name}: {problems}', not problems)
 
 
 def check_contradictions(work):
-    """Contradictions with long names and long replies, with much between, and with commands that are not listed."""
+    """Contradictions with long names and long replies, with much between, of drop frame, and with a deck sheet."""
     ack = block(1, 0x01)
     not_local = [(block(6, 0x20, 0x01), block(7, 0x20, 0x00))]
     polls = [(block(6, 0x0C, 0x01), block(7, 0x04, 0, 0, 0, 1))] * 500
@@ -307,32 +298,15 @@ def check_contradictions(work):
                     now += 400
                     rows.append(f'{now},{wire},{byte:02X}')
         path = f'{work}/contradiction.csv'
-        open(path, 'w').write('time_us,wire,byte\n' + ''.join(row + '\n' for row in rows))
-        _, out, _ = run([PROGRAM, 'check', path])
-        judge(f'{name}: {out}', ': M1 ' in out)
-        check_contradiction(name, path)
-    # a name that has what an SVG writes otherwise
-    _, why, _ = run([PROGRAM, 'why', path])
-    for awk in AWKS:
-        _, svg, _ = picture(awk, why.replace('STATUS SENSE', 'A<&>B'), f'capture={path}')
-        told = [text.text for text in xml.fromstring(svg).findall(SVG + 'text')]
-        judge(f'{awk}: a name with marks: {told}', 'A<&>B' in told)
-    # the capture beside it has to be the one that was asked of
-    _, why, _ = run([PROGRAM, 'why', path])
-    first = int(re.match(r'records (\d+) ', why)[1])
-    for what, changed, message in (
-            ('another byte', [*rows[:first], re.sub('..$', 'FF', rows[first]), *rows[first + 1:]],
-             f'record {first + 1} of the capture is another one than the report has'),
-            ('another wire', [*rows[:first], rows[first].replace('C', 'D'), *rows[first + 1:]],
-             f'record {first + 1} of the capture is another one than the report has'),
-            ('a bad row', [*rows[:first], '1,C,2', *rows[first + 1:]], f'row {first + 1} of the capture is no record: 1,C,2'),
-            ('a short capture', rows[:-1], f'the capture ends before record {len(rows)}')):
-        other = f'{work}/other.csv'
-        open(other, 'w').write('time_us,wire,byte\n' + ''.join(row + '\n' for row in changed))
-        for awk in AWKS:
-            status, out, err = picture(awk, why, f'capture={other}')
-            tail = '' if what == 'a bad row' else f': {other}'
-            judge(f'{awk}: {what}: {err}', (status, out, err) == (1, '', f'ninecheck picture: line {len(why.splitlines())}: {message}{tail}\n'))
+        write_capture(path, rows)
+        judge(f'{name} is M1', ': M1 ' in run(['check', path])[1])
+        check_capture(name, path)
+    changed = {'12000,D,02': '12000,D,03', '13600,D,87': '13600,D,88'}
+    write_capture(path, [changed.get(row, row) for row in rows_of('examples/drop-frame.csv')])
+    check_capture('drop frame', path, '--rate', '29.97df')
+    told = picture('drop frame', path, '--rate', '29.97df')
+    judge('the times of drop frame', all(text in told for text in ('>IN DATA PRESET 00:00:59;29<', ' 00:01:00;03<', 'in 00:01:00;02, ')))
+    check_capture('a deck sheet', 'examples/lost-in-point.csv', '--deck', 'decks/nine-pin-commands.toml')
 
 
 def pixels_of(png):
@@ -386,51 +360,29 @@ def check_rendered():
 
 
 def check_parts(work):
-    """Of a report of --all the break that was asked for is drawn as that of a capture which begins where its part does, but for
-    the numbers of the records. One part begins at a record that comes after a pause, and not after one of the deck."""
+    """Of several breaks the one that was asked for is drawn as that of a capture which begins where its part does, but for the
+    numbers of the records. One part begins at a record that comes after a pause, and not after one of the deck."""
     pause = f'{work}/pause.csv'
     sent = [(400, 'C'), (400, 'C'), (10287, 'C'), (400, 'C'), (10288, 'C'), (400, 'C'), (400, 'C'), (9288, 'D')]
-    digits, now = '10 01 11 20 20 01 21 10'.split(), 0
-    with open(pause, 'w') as file:
-        file.write('time_us,wire,byte\n')
-        for (gap, wire), byte in zip(sent, digits):
-            now += gap
-            file.write(f'{now},{wire},{byte}\n')
-    of_pause = ('no at record 1: B1 wrong group for this wire\nno at record 8: L1 late reply\n'
-                'breaks 2: records 8, exchanges 0, passed over 4, open 4\n')
-    several = 'examples/views/several-breaks'
-    late = 'examples/views/late-replies'
-    cases = [(f'{several}.csv', open(f'{several}{report}.txt').read(), {22: 1, 39: 1, 45: 42, 54: 45}) for report in ('', '-why')]
-    cases += [(f'{late}.csv', open(f'{late}{report}.txt').read(), {16: 1, 22: 1, **of_check, 45: 35, 50: 35, 54: 51, 61: 57, 63: 57, 73: 63})
-              for report, of_check in (('', {34: 1}), ('-why', {}))]
-    cases.append((pause, of_pause, {1: 1, 8: 5}))
-    for capture, report, begins in cases:
-        rows = open(capture).read().splitlines()
+    now, rows = 0, []
+    for (gap, wire), byte in zip(sent, '10 01 11 20 20 01 21 10'.split()):
+        now += gap
+        rows.append(f'{now},{wire},{byte}')
+    write_capture(pause, rows)
+    for capture, begins in (('examples/views/several-breaks.csv', {22: 1, 39: 1, 45: 42, 54: 45}),
+                            ('examples/views/late-replies.csv', {16: 1, 22: 1, 34: 1, 45: 35, 50: 35, 54: 51, 61: 57, 63: 57, 73: 63}),
+                            (pause, {1: 1, 8: 5})):
+        rows = rows_of(capture)
         for number, begin in begins.items():
-            verdict = re.search(f'^no at record {number}: (.*)$', report, re.M)[1]
             part = f'{work}/part.csv'
-            open(part, 'w').write('\n'.join([rows[0], *rows[begin:]]) + '\n')
-            # a late reply is drawn with what is judged after it, up to the break that ends the part
-            nos = [f'no at record {number - begin + 1}: {verdict}']
-            for other, text in re.findall(r'^no at record (\d+): (.*)$', report, re.M):
-                if nos[-1].endswith('late reply') and int(other) >= number and text != verdict:
-                    nos.append(f'no at record {int(other) - begin + 1}: {text}')
-            if verdict.startswith('L1'):
-                nos.append(f'breaks {len(nos)}: records 0, exchanges 0, passed over 0, open 0')
-            for awk in AWKS:
-                _, alone, _ = picture(awk, '\n'.join(nos) + '\n', f'capture={part}')
-                want = re.sub(r'\brecord (\d+)', lambda found: f'record {int(found[1]) + begin - 1}', alone)
-                status, svg, err = picture(awk, report, f'capture={capture}', f'at={number}')
-                judge(f'{awk}: the break at record {number} of {capture}: {err}', (status, svg, err) == (0, want, '') and want != '')
-                if number == min(begins):
-                    judge(f'{awk}: the first break of {capture}', picture(awk, report, f'capture={capture}') == (0, svg, ''))
-    for awk in AWKS:
-        rows = open(f'{several}.csv').read().splitlines()
-        silent = f'{work}/silent.csv'
-        open(silent, 'w').write('\n'.join([*rows[:40], *(row.replace('C', 'D') for row in rows[40:])]) + '\n')
-        refused = picture(awk, cases[0][1], f'capture={silent}', 'at=45')
-        judge(f'{awk}: a capture of another report: {refused}', refused == (
-            1, '', f'ninecheck picture: line 14: no command can begin between the breaks at records 39 and 45: {silent}\n'))
+            write_capture(part, rows[begin - 1:])
+            alone = picture(f'the part of {number} of {capture}', part, '--all', '--at', f'{number - begin + 1}')
+            want = re.sub(r'\b(records?) (\d+)( to (\d+))?', lambda found: f'{found[1]} {int(found[2]) + begin - 1}' + (
+                f' to {int(found[4]) + begin - 1}' if found[3] else ''), alone)
+            svg = picture(f'the break at record {number} of {capture}', capture, '--all', '--at', f'{number}')
+            judge(f'the break at record {number} of {capture}', svg == want)
+            if number == min(begins):
+                judge(f'the first break of {capture}', picture('the first break', capture, '--all') == svg)
 
 
 def check_late(work):
@@ -443,87 +395,88 @@ def check_late(work):
         for k, byte in enumerate(sent):
             now += 400 if k else pause
             all_rows.append(f'{now},{wire},{byte:02X}')
-    late, extra, end = 'no at record 5: L1 late reply\n', 'no at record 29: P1 reply without a command\n', 'records 35, exchanges 3, passed over 1, open 0\n'
-    nothing = 'goal unknown, shown unknown, in unknown, out unknown, local unknown, ain unknown, aout unknown'
-    exchange = f'record 22: STATUS SENSE -> 7F 20, delay 9288, {nothing}\nrecord 28: PLAY -> ACK, delay 400, {nothing}\n'
-    for name, report, judged in (
-            ('the verdict', late, 5), ('no other break', f'{late}breaks 1: records 28, exchanges 2, passed over 0, open 0\n', 28), ('check', f'{late}{extra}breaks 2: {end}', 29),
-            ('explain', f'{late}{exchange}{extra}breaks 2: {end}', 29), ('a wrong group', f'{late}no at record 5: B1 wrong group for this wire\nbreaks 2: {end}', 5)):
-        path, rows = f'{work}/late.csv', all_rows[:28 if name == 'no other break' else 35]
-        open(path, 'w').write('time_us,wire,byte\n' + ''.join(row + '\n' for row in rows))
+    wrong_group = [re.sub('..$', '20', row) if k == 4 else row for k, row in enumerate(all_rows)]
+    verdict = 'no at record 5: L1 late reply'
+    for name, rows, words, judged in (
+            ('the verdict', all_rows, [], 5), ('no other break', all_rows[:28], ['--all'], 28), ('another break', all_rows, ['--all'], 29),
+            ('a wrong group', wrong_group, ['--all'], 5)):
+        path = f'{work}/late.csv'
+        write_capture(path, rows)
         for width in (700, 1200, 4000):
-            for awk in AWKS:
-                status, svg, err = picture(awk, report, f'capture={path}', f'width={width}')
-                judge(f'{awk}: a late reply, {name}, {width}: {err}', status == 0 and not err)
-                problems = problems_of(svg, late.strip(), rows)
-                judge(f'{awk}: a late reply, {name}, {width}: {problems}', not problems)
-                root = xml.fromstring(svg)
-                pale = {int(rect.find(SVG + 'title').text.split()[1].rstrip(',')): rect.get('stroke') == '#999999'
-                        for rect in root.findall(SVG + 'rect') if rect.find(SVG + 'title') is not None}
-                judge(f'{awk}: what is pale, {name}, {width}: {pale}', all(is_pale == (record > judged) for record, is_pale in pale.items()))
-                judge(f'{awk}: the whole reply, {name}, {width}', judged == 5 or set(range(5, 23)) <= set(pale))
-                names = {text.text for text in root.findall(SVG + 'text') if text.text.strip('()') in ('STATUS', 'PLAY', 'STOP')}
-                want = {*(['STATUS'] if 6 in pale else []), *(['PLAY' if judged > 22 else '(PLAY)'] if 25 in pale else []), *(['STOP' if judged > 29 else '(STOP)'] if 32 in pale else [])}
-                judge(f'{awk}: the names, {name}, {width}: {names}', names == want)
-                judge(f'{awk}: all is drawn, {name}, {width}', width < 4000 or len(rows) in pale)
+            svg = picture(f'a late reply, {name}', path, *words, '--width', f'{width}')
+            problems = problems_of(svg, verdict, rows)
+            judge(f'a late reply, {name}, {width}: {problems}', not problems)
+            root = xml.fromstring(svg)
+            pale = {int(rect.find(SVG + 'title').text.split()[1].rstrip(',')): rect.get('stroke') == '#999999'
+                    for rect in root.findall(SVG + 'rect') if rect.find(SVG + 'title') is not None}
+            judge(f'what is pale, {name}, {width}: {pale}', all(is_pale == (record > judged) for record, is_pale in pale.items()))
+            judge(f'the whole reply, {name}, {width}', judged == 5 or set(range(5, 23)) <= set(pale))
+            judge(f'all is drawn, {name}, {width}', width < 4000 or len(rows) in pale)
+            if rows is wrong_group:
+                continue
+            names = {text.text for text in root.findall(SVG + 'text') if text.text.strip('()') in ('STATUS', 'PLAY', 'STOP')}
+            named = (('STATUS', 6, 0), ('PLAY', 25, 22), ('STOP', 32, 29))
+            want = {word if judged > last else f'({word})' for word, record, last in named if record in pale}
+            judge(f'the names, {name}, {width}: {names}', names == want)
 
 
 def check_late_contradiction():
     """Replies that contradict one another have their rows also where some of them were late, and other late ones stand between."""
-    capture, report = 'examples/views/late-replies.csv', open('examples/views/late-replies-why.txt').read()
-    why = report[report.index('records 1 to 8 '):]
+    capture, why = 'examples/views/late-replies.csv', open('examples/views/late-replies-why.txt').read()
+    why = why[why.index('records 1 to 8 '):]
     why = why[:why.index('no run remains\n') + len('no run remains\n')]
-    problems = problems_of_rows(picture('mawk', why, f'capture={capture}')[1], why, open(capture).read().split('\n')[1:-1])
+    problems = problems_of_rows(picture(capture, capture, '--all', '--at', '34'), why, rows_of(capture))
     judge(f'{capture}: {problems}', not problems)
-    for awk in AWKS:
-        judge(f'{awk}: the contradiction of {capture}', picture(awk, report, f'capture={capture}', 'at=34') == picture(awk, why, f'capture={capture}'))
 
 
 def check_refusals(work):
-    capture = 'examples/late-reply.csv'
-    verdict = 'no at record 4: L1 late reply\n'
-    several_capture = 'examples/views/several-breaks.csv'
-    several = open('examples/views/several-breaks.txt').read()
-    short = f'{work}/short.csv'
-    open(short, 'w').write('time_us,wire,byte\n400,C,20\n')
-    rows = [
-        ('a yes', 'yes: records 6, exchanges 1, open 0\n', [f'capture={capture}'], 'line 1: the verdict is a yes: there is nothing to draw'),
-        ('no capture', verdict, [], 'line 1: no capture beside the report'),
-        ('no such capture', verdict, [f'capture={work}/none'], f"line 1: the capture can't be opened: {work}/none"),
-        ('a short capture', verdict, [f'capture={short}'], f'line 1: the capture ends before record 4: {short}'),
-        ('no header', verdict, ['capture=examples/wrong-header.csv'], 'line 1: no header of a capture: examples/wrong-header.csv'),
-        ('a bad row', 'no at record 9: L1 late reply\n', ['capture=examples/bad-byte.csv'], 'line 1: row 7 of the capture is no record: 2800,C,G1'),
-        ('a narrow picture', verdict, [f'capture={capture}', 'width=699'], 'line 0: --width has to be a number from 700 on: 699'),
-        ('no number', verdict, [f'capture={capture}', 'width=wide'], 'line 0: --width has to be a number from 700 on: wide'),
-        ('another record', verdict, [f'capture={capture}', 'at=5'], 'line 1: there is no break at record 5'),
-        ('a record of no break', several, [f'capture={several_capture}', 'at=23'], 'line 14: there is no break at record 23'),
-        ('no record', several, [f'capture={several_capture}', 'at=last'], 'line 0: --at has to be the number of a record: last'),
-        ('no break', 'breaks 0: records 6, exchanges 1, passed over 0, open 0\n', [f'capture={capture}'],
-         'line 1: no part breaks: there is nothing to draw'),
-        ('totals that are missing', several[:several.index('breaks')], [f'capture={several_capture}', 'at=39'],
-         "line 13: no totals: the capture can't be read, or the text was cut short"),
-        ('no verdict', '', [f'capture={capture}'], "line 0: no verdict: the capture can't be read, or the text was cut short"),
-        ('another text', 'hello\n', [f'capture={capture}'], 'line 1: unknown line: hello'),
-    ]
-    for awk in AWKS:
-        for name, text, settings, why in rows:
-            status, out, err = picture(awk, text, *settings)
-            judge(f'{awk}: {name}: {err}', (status, out, err) == (1, '', f'ninecheck picture: {why}\n'))
+    """Where there is nothing to draw, or the words are wrong, a line says so; all else that is refused is told as `check` does."""
+    late, several, play = 'examples/late-reply.csv', 'examples/views/several-breaks.csv', 'examples/play.csv'
+    for words, why in (
+            ([play], 'the verdict is a yes'), ([play, '--all'], 'no part breaks'), (['examples/header-only.csv'], 'the verdict is a yes'),
+            ([play, '--at', '3'], 'the verdict is a yes'), (['--hands', 'examples/disputed-in-point.csv'], 'the verdict is a yes'),
+            ([late, '--at', '5'], 'there is no break at record 5'), ([several, '--at', '39'], 'there is no break at record 39'),
+            ([several, '--all', '--at=23'], 'there is no break at record 23')):
+        done = run(['picture', *words])
+        judge(f'nothing to draw: {words}: {done}', done == (2, '', f'nothing to draw: {why}\n'))
+    for option, value, why in (
+            *(('--width <PIXELS>', value, 'a width is a number from 700 on') for value in ('20', '699', 'wide', '', '1e3')),
+            *(('--at <RECORD>', value, 'a record has a number from 1 on') for value in ('0', 'last', '', '-1'))):
+        want = f"error: invalid value '{value}' for '{option}': {why}\n\nFor more information, try '--help'.\n"
+        judge(f'{option} {value!r}', run(['picture', f'{option.split()[0]}={value}', late]) == (2, '', want))
+    # What clap says is what it says of `why`.
+    for words in (['--foo', late], ['--bytes', late], [late, play], ['--all', '--all', late], ['--rate'], ['--rate', '26', late]):
+        want = (2, '', run(['why', *words])[2].replace('ninecheck why', 'ninecheck picture'))
+        done = run(['picture', *words])
+        judge(f'picture {words}: {done}', done == want and done[2])
+    for option in ('--at <RECORD>', '--width <PIXELS>'):
+        want = f"error: a value is required for '{option}' but none was supplied\n\nFor more information, try '--help'.\n"
+        judge(f'{option} without a value', run(['picture', late, option.split()[0]]) == (2, '', want))
+    # No name of a sheet can have what XML writes otherwise.
+    marks = f'{work}/marks.toml'
+    open(marks, 'w').write('[names]\n"20 61" = "A<&>\\"B"\n')
+    for words in (['examples/wrong-header.csv'], ['examples/bad-byte.csv'], ['--all', 'examples/bad-byte.csv'], ['/dev/null'],
+                  ['absent.csv'], ['examples'], ['--deck', 'absent.toml', play], ['--deck', marks, play]):
+        status, out, err = run(['check', *words])
+        judge(f'picture {words}', status > 2 and err and run(['picture', *words]) == (status, '', err))
 
 
 def main():
     chance = random.Random(9)
     with tempfile.TemporaryDirectory() as work:
-        os.environ['TMPDIR'] = work
         for line in open('examples/ANSWERS'):
             if not line.startswith('#'):
                 name = line.split('|')[0]
-                check_capture(name, f'examples/{name}', True)
-        check_capture('session.csv', 'examples/views/session.csv', True)
-        for k in range(120):
-            path = f'{work}/drawn.csv'
-            open(path, 'w').write(drawn_capture(chance))
-            check_capture(f'drawn {k}', path, k % 10 == 0)
+                check_capture(name, f'examples/{name}')
+        check_capture('session.csv', 'examples/views/session.csv')
+        path = f'{work}/drawn.csv'
+        for k in range(100):
+            write_capture(path, drawn_capture(chance))
+            check_capture(f'drawn {k}', path)
+        # far from the beginning of the capture
+        sent = [('C', byte) for byte in block(2, 0x01)] + [('D', byte) for byte in block(1, 0x01)]
+        write_capture(path, [f'{400 * k},{wire},{byte:02X}' for k, (wire, byte) in enumerate(sent * 500 + sent[-3:] + sent * 100)])
+        check_capture('a long capture', path)
         check_wires(work)
         check_contradictions(work)
         check_parts(work)

@@ -1,6 +1,6 @@
 #!/usr/bin/env bash
-# Hands reports that are damaged, or put together wrongly, to the view that draws them, under each awk: each is refused with its line.
-# The last line is 'N passed, M failed'.
+# Hands reports that are damaged, or put together wrongly, to what reads the lines of a report for each view that is awk, under each
+# awk: each is refused with its line. The last line is 'N passed, M failed'.
 set -u
 cd "$(dirname "$0")/.." || exit 1
 . tests/lib/tools.sh
@@ -9,14 +9,17 @@ need_tools mawk gawk busybox
 . tests/lib/awk.sh
 . tests/lib/closed.sh
 
-# The view's own files are made here, so that it can be seen that none is left.
+# A view that writes the lines that it reads. Its own files are made here, so that it can be seen that none is left.
 export TMPDIR=$work/held
 mkdir "$TMPDIR"
 
-# picture WORDS: the picture of the report on standard input; its streams are left in $work/out and $work/err.
-picture() {
-    # shellcheck disable=SC2086,SC2046
-    $awk $1 $(files_of picture) > "$work/out" 2> "$work/err"
+printf 'BEGIN { view = "a view" }\n{ read_line(); put($0) }\n' > "$work/view.awk"
+view="-f $work/view.awk -f view/refuse.awk -f view/report.awk"
+
+# read_report: what the view makes of the report on standard input; its streams are left in $work/out and $work/err.
+read_report() {
+    # shellcheck disable=SC2086
+    $awk $view > "$work/out" 2> "$work/err"
     status=$?
 }
 
@@ -38,8 +41,8 @@ bad_texts() {
     local name line what text
     while IFS='|' read -r name line what text; do
         text_of "$text" > "$work/in"
-        picture '' < "$work/in"
-        judge "$awk: $name" is_refused "ninecheck picture: line $line: $(text_of "$what")"
+        read_report < "$work/in"
+        judge "$awk: $name" is_refused "a view: line $line: $(text_of "$what")"
     done <<'END'
 an empty text|0|no verdict: the capture can't be read, or the text was cut short|
 no verdict|1|no verdict: the capture can't be read, or the text was cut short|record 6: PLAY -> ACK, @unknown\n
@@ -141,44 +144,29 @@ a record that breaks on another wire|1|unknown line: record 1 at 0: E 10|record 
 END
 }
 
-# The picture of replies of drop frame that contradict one another has their times as the report has them.
-drop_frame_picture() {
-    local time
-    sed 's/^12000,D,02/12000,D,03/; s/^13600,D,87/13600,D,88/' examples/drop-frame.csv > "$work/beside.csv"
-    text_of 'records 9 to 18 at 3600: IN DATA PRESET 00:00:59;29 44 14 29 59 00 00 DA -> 10 01 11
-records 25 to 34 at 10000: IN DATA SENSE 60 10 70 -> 00:01:00;03 74 10 03 00 01 00 88
-could show: shown any, in 00:01:00;02, out unknown, local no, ain unknown, aout unknown
-no at record 34: M1 no run remains\n' > "$work/in"
-    picture "-v capture=$work/beside.csv" < "$work/in"
-    for time in '>IN DATA PRESET 00:00:59;29<' '00:01:00;03<' 'in 00:01:00;02, local no<'; do
-        judge "$awk: picture: $time" grep -qF "$time" "$work/out"
-    done
-    judge "$awk: picture: times of drop frame" [ "$status" = 0 -a ! -s "$work/err" ]
-}
-
 # A full device, no folder for the file in which a view keeps its lines, and a reader that has gone. Under its option --posix gawk does
 # not tell what became of a pipe, so it runs without.
 full_device() {
-    local words="-v capture=examples/late-reply.csv"
     echo 'no at record 4: L1 late reply' > "$work/in"
-    # shellcheck disable=SC2046,SC2086
-    ${awk% --posix} $words $(files_of picture) < "$work/in" > /dev/full 2> "$work/err"
+    read_report < "$work/in"
+    judge "$awk: a whole report" is_made "$work/in"
+    # shellcheck disable=SC2086
+    ${awk% --posix} $view < "$work/in" > /dev/full 2> "$work/err"
     status=$?
     judge "$awk: a full device" [ "$status" = 1 ]
-    judge "$awk: the message of a full device" grep -q "^ninecheck picture: line 1: the view can't be written$" "$work/err"
-    # shellcheck disable=SC2046,SC2086
-    TMPDIR=$work/none ${awk% --posix} $words $(files_of picture) < "$work/in" > "$work/out" 2> "$work/err"
+    judge "$awk: the message of a full device" grep -q "^a view: line 1: the view can't be written$" "$work/err"
+    # shellcheck disable=SC2086
+    TMPDIR=$work/none ${awk% --posix} $view < "$work/in" > "$work/out" 2> "$work/err"
     status=$?
     judge "$awk: no room to keep the lines" [ "$status" = 1 ]
-    judge "$awk: the message of no room" [ "$(tail -n 1 "$work/err")" = "ninecheck picture: line 1: the view can't be written" ]
-    # shellcheck disable=SC2046,SC2086
-    into_closed $awk $words $(files_of picture)
+    judge "$awk: the message of no room" [ "$(tail -n 1 "$work/err")" = "a view: line 1: the view can't be written" ]
+    # shellcheck disable=SC2086
+    into_closed $awk $view
     judge "$awk: a reader that has gone" is_silent
 }
 
 for awk in mawk 'gawk --posix' 'busybox awk'; do
     bad_texts
-    drop_frame_picture
     full_device
     judge "$awk: no file is left" [ -z "$(ls "$TMPDIR")" ]
 done

@@ -10,14 +10,13 @@ need_tools python3
 . tests/lib/errors.sh
 . tests/lib/program.sh
 . tests/lib/blocks.sh
-. tests/lib/awk.sh
 
 # synced WORDS STATUS TEXT [FIRST [FIELD]]: the whole of what comes of $work/capture.csv with these words and --sync; FIRST is the
 # first line on standard error, and FIELD what a bad row has in the field that is wrong.
 synced() {
     # shellcheck disable=SC2086
     run $1 --sync "$work/capture.csv" < /dev/null
-    expect "$name: $1 --sync" "$2" "$3" "$(both_lines "${4-}" "${5-}")"
+    expect "$name: $1 --sync" "$2" "$3" "$(both_lines "${4-}" "${5-}" "$work/capture.csv")"
 }
 
 # text TEXT: makes $work/capture.csv of the header and these rows, with printf's escapes.
@@ -464,7 +463,7 @@ for file in examples/*.csv; do
     done
 done
 
-# A picture with -v sync=1 is that of the rest: of PLAY, that is answered too soon, and not of blocks with bytes of two commands.
+# A picture with --sync is that of the rest: of PLAY, that is answered too soon, and not of blocks with bytes of two commands.
 cat > "$work/capture.csv" <<'END'
 time_us,wire,byte
 1000,C,00
@@ -481,10 +480,8 @@ time_us,wire,byte
 22800,D,11
 END
 awk 'NR == 1 || NR > 8' "$work/capture.csv" > "$work/rest.csv"
-"$program" check --sync "$work/capture.csv" > "$work/report"
-"$program" check "$work/rest.csv" > "$work/of_rest"
-awk -v sync=1 -v capture="$work/capture.csv" $(files_of picture) < "$work/report" 2>&1 | moved 0 > "$work/out"
-awk -v capture="$work/rest.csv" $(files_of picture) < "$work/of_rest" 2>&1 | moved 7 > "$work/want"
+"$program" picture --sync "$work/capture.csv" 2>&1 | moved 0 > "$work/out"
+"$program" picture "$work/rest.csv" 2>&1 | moved 7 > "$work/want"
 judge 'a picture of what was judged' cmp "$work/out" "$work/want"
 judge 'a picture with the command' grep -q '>PLAY<' "$work/out"
 

@@ -112,7 +112,7 @@ bad=$(
     both 30 'no at record 34: M1 no run remains' 'unreadable at row 35: byte'
     both 29.97df 'unreadable at row 35: byte' 'unreadable at row 35: byte'
 )
-expect 'a bad row behind a break' 1 "$bad" ''
+expect 'a bad row behind a break' 1 "$bad" 'look at: rate, at record 9: a time has frame 29, asked with --rate 25; ask with --rate 29.97df, or without drop frame --rate 30'
 ask try absent.csv
 expect 'a file that is not there' 4 '' 'cannot open
 absent.csv: No such file or directory'

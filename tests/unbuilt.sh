@@ -9,7 +9,6 @@ tree=$work/tree
 mkdir -p "$tree/crates/ninecheck/src" "$tree/a folder" "$work/bin" "$work/temporary"
 cp -r ninecheck ./make ./view ./convert "$tree/"
 echo 'a capture' > "$tree/a folder/play.csv"
-cp examples/late-reply.csv "$tree/a folder/late.csv"
 (cd "$tree" && find . | LC_ALL=C sort) > "$work/before"
 first='ninecheck: not built yet: this answer comes from the same code with run-time checks and without its proof; `make` proves and builds it'
 advice='ninecheck: run `make`: it proves and builds the program, which has no such limit'
@@ -99,25 +98,26 @@ printf 'a row\n' | ask json why --all --from=1
 judge 'a report is no file' was_told '[json][why][--all][--from=1]a row'
 ask motion why < /dev/null
 judge 'a file that is called like a report' was_told "[motion][$tree/why]"
+printf 'a row\n' | ask try --all --rate 24 --deck sheet.toml
+judge 'a sheet that is tried' was_told "[try][--all][--rate][24][--deck][$tree/sheet.toml]a row"
+printf 'a row\n' | ask picture --at 4 --width 700 --all
+judge 'a record and a width are no files' was_told '[picture][--at][4][--width][700][--all]a row'
+ask picture --at=4 --width=700 'a folder/play.csv' < /dev/null
+judge 'a record and a width in one word each' was_told "[picture][--at=4][--width=700][$tree/a folder/play.csv]"
 printf 'a row\n' | ask clock --seconds
 judge 'a text for the clock' was_told '[clock][--seconds]a row'
 
 # The words that ask the program ask the trial, and tell its first line once.
 ended='checked: ended status=0\nrun=ended status=0 runners=1 proved=no\n'
 stand_in 1 'no at record 4: L1 late reply\n' "$ended"
-ask picture 'a folder/late.csv' < /dev/null
-judge 'a picture' eval '[ "$status" = 1 ] && grep -q "</svg>" "$work/out" && [ "$(cat "$work/err")" = "$first" ]'
-judge 'a picture asks why' was_told "[why][--][$tree/a folder/late.csv]"
-stand_in 0 'breaks 0: records 6, exchanges 1, passed over 0, open 0\n' "$ended"
-ask try --all < "$tree/a folder/play.csv"
-judge 'try' eval '[ "$status" = 0 ] && [ "$(wc -l < "$work/out")" = 8 ] && [ "$(cat "$work/err")" = "$first" ]'
-judge 'a line of try' [ "$(tail -n 1 "$work/out")" = '--rate 29.97df --hands: breaks 0: records 6, exchanges 1, passed over 0, open 0' ]
-stand_in 1 'no at record 4: L1 late reply\n' "$ended"
+ask touches 'a folder/play.csv' < /dev/null
+judge 'touches' is_text 1 'no at record 4: L1 late reply' "$first"
+judge 'touches asks run' was_told "[run][--hands][--][$tree/a folder/play.csv]"
 ask why 'a folder/play.csv' < /dev/null
 judge 'why asks once' is_text 1 'no at record 4: L1 late reply' "$first"
 stand_in 6 '' 'checked: no-answer: the program wrote more than 1048576 bytes to standard output\nrun=no-answer proved=no\n'
-ask picture 'a folder/late.csv' < /dev/null
-judge 'a picture without an answer' is_text 125 '' "$first
+ask touches 'a folder/play.csv' < /dev/null
+judge 'touches without an answer' is_text 125 '' "$first
 ninecheck: no answer: it has over 1 MiB
 $advice"
 ask convert sigrok --samplerate 2000000 < examples/exports/sigrok.txt

@@ -25,10 +25,19 @@ is_view() {
     [ "$status" = "$1" ] && cmp "$work/out" "$2" && [ ! -s "$work/err" ]
 }
 
-# Words, and what they make: of a file, and of the same capture on standard input.
+# What `touches` writes of a capture that is a yes with hands, and of one that is a no.
+cat > "$work/touched" <<'END'
+between record 18, 0.007200 s, and record 19, 0.007600 s: in: 10:00:00:00 => 11:00:00:00
+touches 1, as few as possible
+yes: records 28, exchanges 3, open 0
+END
+echo 'no at record 4: L1 late reply' > "$work/late"
+
+# Words, and what they make, which stands in an example or in $work: of a file, and of the same capture on standard input.
 made_views() {
     local words capture want_status want
     while IFS='|' read -r words capture want_status want; do
+        case $want in */*) ;; *) want=$work/$want ;; esac
         # shellcheck disable=SC2086
         ask $words "$capture" < /dev/null
         judge "$shell, $awk: $words $capture" is_view "$want_status" "$want"
@@ -38,8 +47,8 @@ made_views() {
     done <<'END'
 digest|examples/views/session.csv|1|examples/views/session-digest.txt
 json why --all|examples/views/several-breaks.csv|1|examples/views/several-breaks-why-json.txt
-picture|examples/late-reply.csv|1|docs/pictures/late-reply.svg
-picture|examples/disputed-in-point.csv|1|docs/pictures/disputed-in-point.svg
+touches|examples/late-reply.csv|1|late
+touches|examples/disputed-in-point.csv|0|touched
 END
 }
 
@@ -52,32 +61,25 @@ refused_words() {
         printf '%b\n' "$want" > "$work/want"
         judge "$shell, $awk: $words" is_refused_so "$want_status"
     done <<'END'
-picture --all examples/wrong-header.csv|3|@check examples/wrong-header.csv
+page --rate 24 examples/wrong-header.csv|3|@check examples/wrong-header.csv
 touches examples/bad-byte.csv|3|@check examples/bad-byte.csv
 touches absent.csv|4|@check absent.csv
-picture examples|4|@check examples
-picture --deck absent.toml examples/play.csv|4|@check --deck absent.toml examples/play.csv
-picture examples/play.csv|2|ninecheck picture: line 1: the verdict is a yes: there is nothing to draw
-picture --all --at 23 examples/views/several-breaks.csv|2|@line picture: there is no break at record 23
-picture --width 20 examples/late-reply.csv|2|ninecheck picture: line 0: --width has to be a number from 700 on: 20
-picture examples/play.csv examples/play.csv|2|error: unexpected argument 'examples/play.csv' found\n\nUsage: ninecheck picture [OPTIONS] [FILE]\n\nFor more information, try '--help'.
-picture --at|2|error: a value is required for '--at' but none was supplied\n\nUsage: ninecheck picture [OPTIONS] [FILE]\n\nFor more information, try '--help'.
+page examples|4|@check examples
+page --deck absent.toml examples/play.csv|4|@check --deck absent.toml examples/play.csv
+page examples/play.csv examples/play.csv|2|error: unexpected argument 'examples/play.csv' found\n\nUsage: ninecheck page [OPTIONS] [FILE]\n\nFor more information, try '--help'.
 convert hex|2|error: unrecognized export 'hex': sigrok, saleae and log are known\n\nUsage: ninecheck convert <sigrok|saleae|log> [OPTIONS] [FILE]\n\nFor more information, try '--help'.
 convert sigrok --samplerate 1 a b|2|error: unexpected argument 'b' found\n\nUsage: ninecheck convert sigrok --samplerate <N> [OPTIONS] [FILE]\n\nFor more information, try '--help'.
 END
 }
 
 # is_refused_so STATUS: nothing was written, and on standard error stands $work/want. A line that begins with @check stands for what
-# `check` says there, and one with @line for a view's refusal whatever the number of its line is.
+# `check` says there.
 is_refused_so() {
     case $(cat "$work/want") in
         '@check '*)
             # shellcheck disable=SC2046
             $shell "$nine" $(sed 's/^@//' "$work/want") > /dev/null 2> "$work/checked"
             mv "$work/checked" "$work/want" ;;
-        '@line '*)
-            sed -i 's/^@line \([a-z]*\): /ninecheck \1: line N: /' "$work/want"
-            sed -i 's/: line [0-9]*: /: line N: /' "$work/err" ;;
     esac
     [ "$status" = "$1" ] && [ ! -s "$work/out" ] && cmp "$work/err" "$work/want"
 }
@@ -85,7 +87,7 @@ is_refused_so() {
 # The program refuses an option that it does not know, and the usage is that of the word that was asked for.
 unknown_options() {
     local asked usage
-    for asked in touches picture page; do
+    for asked in touches page; do
         usage="Usage: ninecheck $asked [OPTIONS] [FILE]"
         ask $asked --foo examples/play.csv
         judge "$shell, $awk: an unknown option of $asked" [ "$status" = 2 -a ! -s "$work/out" ]
@@ -99,29 +101,25 @@ odd_names() {
     local name
     mkdir -p "$work/odd"
     for name in 'a night.csv' '-x.csv' 'rate=30' 'a\tb.csv' "it's.csv" 'ä.csv'; do
-        cp examples/late-reply.csv "$work/odd/$name"
-        (cd "$work/odd" && $shell "$nine" picture -- "$name") > "$work/out" 2> "$work/err"
+        cp examples/disputed-in-point.csv "$work/odd/$name"
+        (cd "$work/odd" && $shell "$nine" touches -- "$name") > "$work/out" 2> "$work/err"
         status=$?
-        judge "$shell, $awk: a capture called $name" is_view 1 docs/pictures/late-reply.svg
+        judge "$shell, $awk: a capture called $name" is_view 0 "$work/touched"
     done
     mkfifo "$work/odd/pipe"
-    cat examples/late-reply.csv > "$work/odd/pipe" &
-    ask picture "$work/odd/pipe"
-    judge "$shell, $awk: a capture that comes only once" is_view 1 docs/pictures/late-reply.svg
+    cat examples/disputed-in-point.csv > "$work/odd/pipe" &
+    ask touches "$work/odd/pipe"
+    judge "$shell, $awk: a capture that comes only once" is_view 0 "$work/touched"
     rm -r "$work/odd"
 }
 
 # A reader that has gone, and a full device.
 closed_early() {
-    cp examples/late-reply.csv "$work/in"
-    into_closed $shell "$nine" picture
-    case $awk in
-        *--posix)
-            judge "$shell, $awk: a reader that has gone" [ "$status" = 1 -a ! -s "$work/err" ]
-            return ;;
-        *) judge "$shell, $awk: a reader that has gone" is_silent ;;
-    esac
-    $shell "$nine" picture examples/late-reply.csv > /dev/full 2> "$work/err"
+    cp examples/disputed-in-point.csv "$work/in"
+    into_closed $shell "$nine" touches
+    judge "$shell, $awk: a reader that has gone" is_silent
+    case $awk in *--posix) return ;; esac
+    $shell "$nine" touches examples/disputed-in-point.csv > /dev/full 2> "$work/err"
     status=$?
     : > "$work/out"
     judge "$shell, $awk: a full device" [ "$status" = 4 ]

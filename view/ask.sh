@@ -76,7 +76,7 @@ run_view() {
 
 # end_view ENDED: the status is the program's, which stands in $held/status, and so is what stands on standard error, which is in
 # $held/said. But where a view, which ended so, refuses a report that is whole, by a line in $held/refused, the status is 4 where it
-# can't write, 141 where its reader has gone, and 2 where the words ask for what there is not.
+# can't write, 141 where its reader has gone, and 2 otherwise.
 end_view() {
     status=$(cat "$held/status")
     sed "s/^Usage: ninecheck .*/$(word_usage)/" "$held/said" >&2

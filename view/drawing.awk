@@ -31,13 +31,9 @@ function draw_box(about, y, kind_of_box, number, us, digits) {
     draw_text(about + box_wide / 2, y + 16, "middle", kind_of_box " digits", digits)
 }
 
-# An arrow with its tip here: up or down, or to the left.
+# An arrow with its tip here, up or down.
 function draw_arrow(tip, y, length_down) {
     put_drawn("<path d=\"M " px(tip) " " y " l -5 " length_down " h 10 z\" " look_of["arrow"] "/>")
-}
-
-function draw_arrow_to_left(tip, y) {
-    put_drawn("<path d=\"M " px(tip) " " y " l 12 -5 v 10 z\" " look_of["arrow"] "/>")
 }
 
 # A bracket whose ends are so long.

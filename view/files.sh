@@ -4,7 +4,6 @@
 view_files() {
     case $1 in
         touches) echo 'touches explanation capture times refuse report' ;;
-        picture) echo 'picture around contradiction_rows replies drawing names page/html capture times refuse report' ;;
         page)
             echo 'page/main page/head page/style page/session page/bins page/marks page/modes page/lanes page/axis page/happened'
             echo 'page/delay_table page/look page/known page/footer'

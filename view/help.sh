@@ -7,7 +7,6 @@ For the bench:
   convert  Make a capture of what sigrok, Saleae Logic or a serial logger exports
   split    Cut a long capture into parts
   touches  Where somebody must have touched the deck's front panel
-  picture  A picture (SVG) of the record that breaks a rule
   page     The whole session as one page (HTML), to look at and to send on
 END
 }
@@ -34,8 +33,7 @@ show_help() {
         convert* | split) echo && word_options ;;
         *)
             echo
-            ask "$asks" --help | sed -n '/^Arguments:/,$p' | without_options
-            word_options ;;
+            ask "$asks" --help | sed -n '/^Arguments:/,$p' | without_options ;;
     esac
     exit 2
 }
@@ -45,7 +43,6 @@ without_options() {
     case $word in
         page) grep -v '^ *--bytes \|^ *--all \|^ *--line-buffered ' ;;
         touches) grep -v '^ *--hands ' ;;
-        *) cat ;;
     esac
 }
 
@@ -55,12 +52,11 @@ word_about() {
         convert*) echo 'Makes a capture of an export of both wires, and writes it to standard output' ;;
         split) echo 'Cuts a capture into parts that begin between exchanges: NAME-001.csv, NAME-002.csv and so on' ;;
         touches) echo "Tells where somebody must have touched the deck's front panel, as seldom as possible, and what changed" ;;
-        picture) echo 'Draws the record that breaks a rule, or the replies that contradict one another, as an SVG' ;;
         page) echo 'Makes a page of the whole capture: HTML that needs no network, to look at and to send on' ;;
     esac
 }
 
-# word_options: what it takes beside the words of the subcommand that it asks.
+# word_options: what a word takes that asks no subcommand.
 word_options() {
     case $word in
         'convert sigrok') cat <<'END' ;;
@@ -110,19 +106,13 @@ Options:
       --to <NAME>  How the parts are called
       --rows <N>   The most rows of a part: 4000000 if left out
 END
-        picture) cat <<'END' ;;
-
-Of the picture:
-      --at <RECORD>  With --all the break at this record; the first if left out
-      --width <N>    The greatest width in pixels, from 700 on; 1200 if left out
-END
     esac
 }
 
 # top_help WORDS...: what the program says of itself, with the other words below its own. The status is the program's.
 top_help() {
     case ${2-} in
-        convert | split | touches | picture | page | why)
+        convert | split | touches | page | why)
             [ "$1" != help ] || exec "$self" "$2" --help ;;
     esac
     (run_program "$@")

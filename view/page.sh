@@ -1,5 +1,5 @@
-# To be sourced by words.sh: what a page of a whole session needs beside the explanation. `why` is asked first, since the totals,
-# with which the page begins, are its last line.
+# To be sourced by words.sh: the word that makes a page of a whole session. `why` is asked first, since the totals, with which the
+# page begins, are its last line.
 
 # as_word TEXT: as a shell takes it again.
 as_word() {
@@ -39,3 +39,10 @@ make_page() {
         "file=${file:-standard input}" "file_word=$file_word" "capture_bytes=$capture_bytes" "checksum=$checksum" \
         "rate=${own_rate:-25}" "hands=${own_hands:-no}" "sync=$sync" "sheet=$own_deck" "words=$words" "version=$version"
 }
+
+# The bytes tell which commands only ask.
+{
+    ask explain --all --bytes "$@" -- "$judged" 2> "$held/said"
+    echo $? > "$held/status"
+} | make_page 2> "$held/refused"
+end_view $?

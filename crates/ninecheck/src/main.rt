@@ -50,7 +50,7 @@ fn tell(rt: &HostRuntime, end: &End) {
         End::Usage(None) => eprintln!(rt;
             "error: a word of the command line is not UTF-8\npass a file with such a name on standard input: ninecheck check < FILE"
         ),
-        End::NoTime(text) => eprintln!(rt; "{text}"),
+        End::NoValue(text) => eprintln!(rt; "{text}"),
         End::Told(outcome) => match &outcome.message {
             Message::Nothing => Ok(()),
             message => eprintln!(rt; "{message}"),

@@ -11,7 +11,7 @@ use Rattle.program9.specs.declared.trying.terms.Terms.{Terms}
 use Rattle.program9.specs.Trying.{AreAnswers, IsChecked, MayTell, TellsAnswers, profile_with}
 
 with_last : (scope : Scope) (deck : Option Deck) (text : List ℕ) (ts : List Terms) (answers : List Answer) (t : Terms) (a : Answer)
-    → AreAnswers scope deck text ts answers → a.terms ≡ t → IsChecked scope (profile_with deck t) text a.ended
+    → AreAnswers scope deck text ts answers → a.terms ≡ t → IsChecked scope (profile_with deck t) (Some text) a.ended
     → AreAnswers scope deck text (ts ++ t ∷ []) (answers ++ a ∷ [])
 with_last scope deck text [] [] t a are same is = (same, is, tt)
 with_last scope deck text (u ∷ ts) (first ∷ answers) t a (at, checked, are) same is = (at, checked, with_last scope deck text ts answers t a are same is)
@@ -19,7 +19,7 @@ with_last scope deck text [] (first ∷ answers) t a are same is = absurd are
 with_last scope deck text (u ∷ ts) [] t a are same is = absurd are
 
 pub one_more : (scope : Scope) (deck : Option Deck) (text : List ℕ) (all : List Terms) (i : ℕ) (d : Terms) (answers : List Answer) (a : Answer)
-    → i < length all → AreAnswers scope deck text (take i all) answers → a.terms ≡ get_or all i d → IsChecked scope (profile_with deck (get_or all i d)) text a.ended
+    → i < length all → AreAnswers scope deck text (take i all) answers → a.terms ≡ get_or all i d → IsChecked scope (profile_with deck (get_or all i d)) (Some text) a.ended
     → AreAnswers scope deck text (take (i + 1) all) (answers ++ a ∷ [])
 one_more scope deck text all i d answers a lt are same is = rw (take_more all i d lt) (with_last scope deck text (take i all) answers (get_or all i d) a are same is)
 

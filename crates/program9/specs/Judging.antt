@@ -1,11 +1,12 @@
 -- How a judging ends whose report goes through a buffer.
-use Rattle.std.specs.Prelude.{◌≡◌, ◌≢◌, ◌⊎◌, ℕ, List, Option, Result, Ok, Err, IfSome, option_map}
+use Rattle.std.specs.Prelude.{◌≡◌, ◌≢◌, ◌⊎◌, ℕ, List, Option, Result, Ok, Err, IfOk, IfSome, option_map}
 use Rattle.std.specs.Io.KnownBytes.{Appends, Keeps}
 use Rattle.capture9.specs.declared.error.CaptureError.{CaptureError}
 use Rattle.capture9.specs.declared.error.CaptureKind.TheVariants as kind
 use Rattle.capture9.specs.Fields.{greatest_limit}
 use Rattle.capture9.specs.Rows.{HasHeader, Rows, rows_of, rows_within}
 use Rattle.deck9.specs.declared.profile.Profile.{Profile}
+use Rattle.picture9.specs.declared.picture.Drawn.{Drawn}
 use Rattle.report9.specs.declared.error.JudgeError.{JudgeError}
 use Rattle.report9.specs.declared.error.JudgeError.TheVariants as error
 use Rattle.report9.specs.declared.run_verdict.RunVerdict.{RunVerdict}
@@ -20,12 +21,13 @@ use Rattle.judge9.specs.Judging.{Answers}
 use Rattle.judge9.specs.Report.{Told, by_totals, by_verdict}
 use Rattle.judge9.specs.RunVerdict.{IsJudgedRun, verdict_of}
 use Rattle.words9.specs.declared.task.Report.{Report}
-use Rattle.words9.specs.declared.task.Report.TheVariants.{Clock, Info, JsonRun, Made, Parts, Run, ToBreak, Try}
+use Rattle.words9.specs.declared.task.Report.TheVariants.{Clock, Info, JsonRun, Made, Parts, Picture, Run, ToBreak, Try}
 use Rattle.view9.specs.declared.clock.ClockFault.{ClockFault}
 use Rattle.view9.specs.declared.seen.Ending.{Ending}
+use Rattle.program9.specs.declared.ending.Message.TheVariants as message
 use Rattle.program9.specs.declared.ending.Outcome.{Outcome}
 use Rattle.program9.specs.declared.judging.Job.{Job}
-use Rattle.program9.specs.Outcome.{outcome_in_parts, outcome_made, outcome_of, outcome_rewritten, outcome_told, outcome_tried}
+use Rattle.program9.specs.Outcome.{outcome_drawn, outcome_in_parts, outcome_kept, outcome_made, outcome_of, outcome_rewritten, outcome_told}
 use Rattle.program9.specs.Output.{IsFirstPart}
 use Rattle.program9.specs.Trying.{TellsAnswers}
 
@@ -90,6 +92,14 @@ EndsRewritten end = (result : Result Unit ClockFault) × (end ≡ outcome_rewrit
 abbrev pub EndsInfo : Outcome → Type 0
 EndsInfo end = (result : Result Unit JudgeError) × (end ≡ outcome_told result)
 
+-- a picture was to be drawn: the capture could not be read to its end, or something was drawn or not
+abbrev pub IsDrawn : Outcome → Type 0
+IsDrawn end = ((drawn : Drawn) × (end ≡ outcome_drawn drawn)) ⊎ (end ≡ record { status = 4; message = message.TextFault })
+
+-- the same of a picture; what stands in it is tested
+abbrev pub EndsDrawn : Outcome → Type 0
+EndsDrawn end = (told : Result Outcome JudgeError) × IfOk told IsDrawn × (end ≡ outcome_kept told)
+
 -- a capture was judged and told by this report, and this is the end
 abbrev pub EndsJudged : Report → Job → Option (List ℕ) → Option (List ℕ) → Outcome → Option (List ℕ) → Type 0
 EndsJudged Run job capture old end now = EndsAs (IsJudgedWithRun job capture old) outcome_of end now
@@ -99,4 +109,5 @@ EndsJudged (Made made extent) job capture old end now = EndsMade end
 EndsJudged JsonRun job capture old end now = EndsJsonRun end
 EndsJudged (Clock form) job capture old end now = EndsRewritten end
 EndsJudged Info job capture old end now = EndsInfo end
-EndsJudged (Try extent) job capture old end now = EndsAs (TellsAnswers (record { extent = extent; beginning = job.asked.beginning }) job.profile capture old) outcome_tried end now
+EndsJudged (Try extent) job capture old end now = EndsAs (TellsAnswers (record { extent = extent; beginning = job.asked.beginning }) job.profile capture old) outcome_kept end now
+EndsJudged (Picture extent) job capture old end now = EndsDrawn end

@@ -1,3 +1,4 @@
+pub mod Again
 pub mod Header
 pub mod Word
 pub mod Text

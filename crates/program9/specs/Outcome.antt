@@ -5,6 +5,8 @@ use Rattle.std.specs.declared.io.ErrorKind.TheVariants.{BrokenPipe}
 use Rattle.capture9.specs.declared.error.CaptureError.{CaptureError}
 use Rattle.capture9.specs.declared.error.CaptureKind.{CaptureKind}
 use Rattle.capture9.specs.declared.error.CaptureKind.TheVariants as kind
+use Rattle.picture9.specs.declared.picture.Drawn.{Drawn}
+use Rattle.picture9.specs.declared.picture.Drawn.TheVariants as drawn
 use Rattle.report9.specs.declared.error.JudgeError.{JudgeError}
 use Rattle.report9.specs.declared.error.JudgeError.TheVariants as error
 use Rattle.report9.specs.declared.totals.Totals.{Totals}
@@ -67,10 +69,15 @@ abbrev pub outcome_told : Result Unit JudgeError → Outcome
 outcome_told (Ok told) = record { status = 0; message = message.Nothing }
 outcome_told (Err e) = outcome_refused e
 
--- after a capture was asked with several terms the end is the one that this came to; after a refusal it is that of any judging
-abbrev pub outcome_tried : Result Outcome JudgeError → Outcome
-outcome_tried (Ok end) = end
-outcome_tried (Err e) = outcome_refused e
+-- after a picture was drawn the end is that of the judging; where there is nothing to draw, the status is 2
+abbrev pub outcome_drawn : Drawn → Outcome
+outcome_drawn (drawn.Picture end) = outcome_made (Ok end)
+outcome_drawn (drawn.Nothing why) = record { status = 2; message = message.NothingToDraw why }
+
+-- of what a capture is kept for: the end is the one that this came to; after a refusal it is that of any judging
+abbrev pub outcome_kept : Result Outcome JudgeError → Outcome
+outcome_kept (Ok end) = end
+outcome_kept (Err e) = outcome_refused e
 
 -- what is said, but of a write fault nothing
 abbrev pub unless_write_fault : Message → Message

@@ -89,7 +89,7 @@ EndsTask streams task out end now = (EndsBefore streams task end × Keeps (strea
 abbrev pub EndsWithout : WordsFault → Option (List ℕ) → End → Option (List ℕ) → Type 0
 EndsWithout (words.Usage text) old told now = (told ≡ end.Usage text) × Keeps old now
 EndsWithout words.Version old told now = (outcome : Outcome) × (told ≡ end.Told outcome) × TellsVersion old outcome now
-EndsWithout (words.NoTime text) old told now = (told ≡ end.NoTime text) × Keeps old now
+EndsWithout (words.NoValue text) old told now = (told ≡ end.NoValue text) × Keeps old now
 EndsWithout words.NoMemory old told now = (told ≡ end.Told no_memory) × Keeps old now
 
 -- the end of the program on these words: they are no command, or a time in them is none, and nothing is written; or memory was refused before a
@@ -97,7 +97,7 @@ EndsWithout words.NoMemory old told now = (told ≡ end.Told no_memory) × Keeps
 -- carried out
 abbrev pub EndsWords : {R S W : Type 0} → Streams R S W → List (List ℕ) → W → End → Option (List ℕ) → Type 0
 EndsWords streams words out (end.Usage text) now = IsNoTask words × ¬ (AsksVersion words) × Keeps (streams.contents out) now
-EndsWords streams words out (end.NoTime text) now = Keeps (streams.contents out) now
+EndsWords streams words out (end.NoValue text) now = Keeps (streams.contents out) now
 EndsWords streams words out (end.Told outcome) now =
     ((outcome ≡ no_memory) × Keeps (streams.contents out) now)
     ⊎ ((MayAskVersion words × TellsVersion (streams.contents out) outcome now)

@@ -4,6 +4,7 @@ use Rattle.std.specs.Fmt.{decimal}
 use Rattle.std.specs.String.{string_bytes}
 use Rattle.capture9.specs.Shown.{shown_text}
 use Rattle.capture9.specs.declared.shown_field.ShownField.{ShownField}
+use Rattle.picture9.specs.declared.picture.WhyNothing.TheVariants as nothing
 use Rattle.sheet9.specs.Text as sheet
 use Rattle.program9.specs.declared.ending.Message.{Message}
 use Rattle.program9.specs.declared.ending.Message.TheVariants as message
@@ -22,6 +23,9 @@ text_of message.Nothing = []
 text_of (message.Unreadable e) = codes "unreadable at row " ++ decimal e.row ++ codes ": " ++ word_of e.kind ++ codes "\n" ++ expected_of e.kind e.row ++ found_text e.field
 text_of (message.NoHeader n) = codes "unreadable at row 0: header\n" ++ file_name_of n.file ++ codes ": expected the header time_us,wire,byte; the first line is " ++ header_found n.found
 text_of (message.Hints lines) = string_bytes lines
+text_of (message.NothingToDraw nothing.Yes) = codes "nothing to draw: the verdict is a yes"
+text_of (message.NothingToDraw nothing.NoPartBreaks) = codes "nothing to draw: no part breaks"
+text_of (message.NothingToDraw (nothing.NoBreakAt at)) = codes "nothing to draw: there is no break at record " ++ decimal at
 text_of (message.ReadFault row) = codes "read fault at row " ++ decimal row ++ codes "\nexpected a capture that can be read to its end, not a directory"
 text_of (message.CannotOpen u) = first_line_of u.why ++ codes "\n" ++ file_name_of u.file ++ codes ": " ++ reason_of u.why
 text_of (message.UnreadableSheet u) = codes "unreadable deck sheet\n" ++ string_bytes u.file ++ codes ": " ++ sheet.text_of u.refusal

@@ -1,5 +1,5 @@
 -- One capture, asked with each frame rate, without hands and with, and without the sheet and with it, where there is one.
-use Rattle.std.specs.Prelude.{◌≡◌, ◌⊎◌, ◌++◌, ◌∷◌, ◌==◌, ⊤, ℕ, Bool, true, false, if◌then◌else◌, List, [], Option, Some, None, Result, Ok, Err, IfSome, codes}
+use Rattle.std.specs.Prelude.{◌≡◌, ◌⊎◌, ◌++◌, ◌∷◌, ◌==◌, ⊤, ℕ, Bool, true, false, if◌then◌else◌, List, [], Option, Some, None, Result, Ok, Err, IfSome, codes, option_map}
 use Rattle.std.specs.Fmt.{decimal}
 use Rattle.std.specs.Io.KnownBytes.{Keeps}
 use Rattle.std.specs.List.{flat_map, list_all, list_any}
@@ -96,23 +96,23 @@ abbrev pub by_parts : Result Totals JudgeError → Result Ending JudgeError
 by_parts (Ok totals) = Ok (ending.Totals totals)
 by_parts (Err e) = Err e
 
--- a judging of this text, as `check` judges it, ends so: to the first break it is the right verdict, and over all parts the right
--- totals
-abbrev pub IsCheckedFor : Extent → Beginning → Profile → List ℕ → Result Ending JudgeError → Type 0
+-- a judging of this text, where it is known, as `check` judges it, ends so: to the first break it is the right verdict, and over all
+-- parts the right totals
+abbrev pub IsCheckedFor : Extent → Beginning → Profile → Option (List ℕ) → Result Ending JudgeError → Type 0
 IsCheckedFor FirstBreak beginning profile text ended =
-    (judged : Result Verdict JudgeError) × Answers beginning profile (Some text) judged × (ended ≡ by_verdict judged)
+    (judged : Result Verdict JudgeError) × Answers beginning profile text judged × (ended ≡ by_verdict judged)
 IsCheckedFor WholeCapture beginning profile text ended =
     (judged : Result Totals JudgeError)
-    × Told view.Verdict (record { extent = WholeCapture; beginning = beginning }) profile (Some (rows_within greatest_limit text)) (by_totals judged) None None
+    × Told view.Verdict (record { extent = WholeCapture; beginning = beginning }) profile (option_map (rows_within greatest_limit) text) (by_totals judged) None None
     × (ended ≡ by_parts judged)
 
-abbrev pub IsChecked : Scope → Profile → List ℕ → Result Ending JudgeError → Type 0
+abbrev pub IsChecked : Scope → Profile → Option (List ℕ) → Result Ending JudgeError → Type 0
 IsChecked scope profile text ended = IsCheckedFor scope.extent scope.beginning profile text ended
 
 -- these are the answers to these terms, one by one
 abbrev pub AreAnswers : Scope → Option Deck → List ℕ → List Terms → List Answer → Type 0
 AreAnswers scope deck text [] [] = ⊤
-AreAnswers scope deck text (t ∷ ts) (a ∷ answers) = (a.terms ≡ t) × IsChecked scope (profile_with deck t) text a.ended × AreAnswers scope deck text ts answers
+AreAnswers scope deck text (t ∷ ts) (a ∷ answers) = (a.terms ≡ t) × IsChecked scope (profile_with deck t) (Some text) a.ended × AreAnswers scope deck text ts answers
 AreAnswers scope deck text _ _ = ⊥
 
 -- ---- what is written

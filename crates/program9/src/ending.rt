@@ -3,8 +3,9 @@
 use crate::no_header::NoHeader;
 use capture9::CaptureError;
 use clap::Error;
+use picture9::WhyNothing;
 use sheet9::Refusal;
-use words9::NoTime;
+use words9::NoValue;
 
 /// What is said on standard error, which its `Display` writes: two lines, without a line feed at the end, or nothing. The
 /// first line says what happened; the second what was expected, or what to look at.
@@ -18,6 +19,8 @@ pub enum Message {
     NoHeader(NoHeader),
     /// The capture was asked with several terms, and this is what to look at besides, line by line.
     Hints(String),
+    /// There is nothing to draw.
+    NothingToDraw(WhyNothing),
     /// The reader failed or was interrupted at this data row, counted from 1; 0 is the header.
     ReadFault(u32),
     /// The capture was not opened. No result of `judge` ends so.
@@ -73,7 +76,7 @@ pub enum WhyUnopened {
 /// How the program ends where its words are a command.
 #[derive(Debug, Drop, PartialEq, Eq)]
 pub struct Outcome {
-    /// The exit status: 0 yes, or the version; 1 no, 3 a capture or a deck's sheet that can't be read, 4 a reader or a writer that
+    /// The exit status: 0 yes, or the version; 1 no, 2 nothing to draw, 3 a capture or a deck's sheet that can't be read, 4 a reader or a writer that
     /// failed or a file that can't be opened, 5 out of memory. (Words that are no command end with 2, and have no outcome.)
     pub status: u8,
     /// What is said on standard error.
@@ -98,7 +101,7 @@ pub enum End {
     /// the user; there is none where a word is not UTF-8.
     Usage(Option<Error>),
     /// The words are a command, but for a time that is none. The `Display` is the text for the user.
-    NoTime(NoTime),
+    NoValue(NoValue),
     /// A status, and what is said on standard error.
     Told(Outcome),
 }
@@ -112,7 +115,7 @@ impl End {
         ensures { result ≡ status_of self.now }
     {
         match self {
-            End::Usage(_) | End::NoTime(_) => 2,
+            End::Usage(_) | End::NoValue(_) => 2,
             End::Told(outcome) => outcome.status,
         }
     }

@@ -6,11 +6,12 @@ ghost use Rattle.judge9.specs.Verdict.{CanBeVerdict};
 ghost use Rattle.program9.specs.Output.{contents_behind, held_contents};
 ghost use Rattle.program9.specs.Judging.{EndsJudged, HandsOn, IsJudgedWithRun, WritesRun};
 
+use crate::again::Again;
 use crate::buffered::Buffered;
 use crate::ending::Outcome;
-use crate::making::{make, rewrite_times, tell_info};
+use crate::making::{draw, make, rewrite_times, tell_info};
 use crate::status::{
-    outcome, outcome_in_parts, outcome_made, outcome_rewritten, outcome_told, outcome_tried,
+    outcome, outcome_in_parts, outcome_kept, outcome_made, outcome_rewritten, outcome_told,
 };
 use crate::trying::try_each;
 use deck9::Profile;
@@ -48,23 +49,37 @@ pub fn judge_and_flush<R: Read + Drop, W: Write + Drop>(
     let beginning = job.asked.beginning;
     match job.asked.report {
         Report::Run => {
-            let judged = tell_run(alloc, reader, out, &job);
+            let judged = tell_run(alloc, Again::Opened(reader), out, &job);
             outcome(&ended(out, judged))
         }
         Report::ToBreak(view) => {
-            let judged = judge_for(alloc, reader, out, view, beginning, &job.profile);
+            let judged = judge_for(
+                alloc,
+                Again::Opened(reader),
+                out,
+                view,
+                beginning,
+                &job.profile,
+            );
             outcome(&ended(out, judged))
         }
         Report::Parts(view) => {
-            let judged = judge_parts_for(alloc, reader, out, view, beginning, &job.profile);
+            let judged = judge_parts_for(
+                alloc,
+                Again::Opened(reader),
+                out,
+                view,
+                beginning,
+                &job.profile,
+            );
             outcome_in_parts(&ended(out, judged))
         }
         Report::Made(made, extent) => {
-            let judged = make(alloc, reader, out, made, extent, &job);
+            let judged = make(alloc, Again::Opened(reader), out, made, extent, &job);
             outcome_made(&ended(out, judged))
         }
         Report::JsonRun => {
-            let judged = tell_json_run(alloc, reader, out, &job);
+            let judged = tell_json_run(alloc, Again::Opened(reader), out, &job);
             outcome(&ended(out, judged))
         }
         Report::Clock(form) => {
@@ -72,13 +87,18 @@ pub fn judge_and_flush<R: Read + Drop, W: Write + Drop>(
             outcome_rewritten(&flushed(out, told))
         }
         Report::Info => {
-            let told = tell_info(alloc, reader, out, &job);
+            let told = tell_info(alloc, Again::Opened(reader), out, &job);
             outcome_told(&ended(out, told))
         }
         Report::Try(extent) => {
             let scope = Scope { extent, beginning };
             let told = try_each(alloc, reader, out, scope, job.profile);
-            outcome_tried(ended(out, told))
+            outcome_kept(ended(out, told))
+        }
+        Report::Picture(extent) => {
+            let scope = Scope { extent, beginning };
+            let told = draw(alloc, reader, out, scope, &job);
+            outcome_kept(ended(out, told))
         }
     }
 }

@@ -2,6 +2,7 @@
 //! the writer of the report. `ninecheck` hands in those of the machine.
 #![tactic(auto)]
 
+mod again;
 mod buffered;
 mod ending;
 mod first_bytes;
@@ -22,5 +23,7 @@ pub use ending::{End, Message, Outcome, Unopened, UnreadSheet, WhyUnopened};
 pub use judging::{Job, judge_and_flush};
 pub use no_header::{FoundHeader, LooksLike, NoHeader};
 pub use program::run_program;
-pub use status::{outcome, outcome_in_parts, outcome_made, outcome_rewritten, outcome_told};
+pub use status::{
+    outcome, outcome_drawn, outcome_in_parts, outcome_made, outcome_rewritten, outcome_told,
+};
 pub use trying::{Answer, Terms};

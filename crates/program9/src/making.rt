@@ -1,7 +1,14 @@
 //! What is made of a capture's events, or of a text, beside the reports.
+ghost use Rattle.std.specs.Prelude.{IfOk};
+ghost use Rattle.program9.specs.Judging.{IsDrawn};
 
+use crate::again::Kept;
+use crate::ending::Outcome;
 use crate::judging::Job;
+use crate::status::outcome_drawn;
+use crate::trying::unkept;
 use info9::write_info;
+use picture9::{Twice, Wanted, write_picture};
 use report9::{Extent, JudgeError, Scope, TimeForm};
 use std::alloc::Global;
 use std::io::{BufReader, Read, Write};
@@ -54,4 +61,32 @@ pub(crate) fn rewrite_times<R: Read + Drop, W: Write>(
 ) -> Result<(), ClockFault> {
     let mut reader = BufReader::new(alloc, reader)?;
     write_clock(alloc, &mut reader, writer, form)
+}
+
+/// Keeps the capture that the reader gives, and draws a break of it: how that ends.
+#[inline(never)] // as above
+pub(crate) fn draw<R: Read + Drop, W: Write>(
+    alloc: Global,
+    reader: R,
+    writer: &mut W,
+    scope: Scope,
+    job: &Job,
+) -> Result<Outcome, JudgeError>
+    ensures { IfOk result IsDrawn }
+{
+    let kept = match Kept::of(alloc, reader) {
+        Ok(kept) => kept,
+        Err(e) => return unkept(&e),
+    };
+    let drawing = job.asked.drawing;
+    let wanted = Wanted {
+        at: drawing.at,
+        width: drawing.width,
+    };
+    let capture = Twice {
+        first: kept.again(),
+        second: kept.again(),
+    };
+    let drawn = write_picture(alloc, capture, writer, scope, &job.profile, &wanted)?;
+    Ok(outcome_drawn(&drawn))
 }

@@ -4,6 +4,7 @@ ghost use Rattle.program9.specs.Word.{expected_of, file_name_of, first_line_of, 
 
 use crate::ending::{Message, WhyUnopened};
 use capture9::{CaptureKind, MOST_ROWS};
+use picture9::WhyNothing;
 use std::fmt;
 
 impl fmt::Display for Message {
@@ -31,6 +32,14 @@ impl fmt::Display for Message {
                 )
             }
             Message::Hints(lines) => f.write_str(lines.as_str()),
+            Message::NothingToDraw(why) => match why {
+                WhyNothing::Yes => f.write_str("nothing to draw: the verdict is a yes"),
+                WhyNothing::NoPartBreaks => f.write_str("nothing to draw: no part breaks"),
+                WhyNothing::NoBreakAt(at) => {
+                    let at = *at;
+                    write!(f, "nothing to draw: there is no break at record {at}")
+                }
+            },
             Message::ReadFault(row) => {
                 let row = *row;
                 write!(

@@ -39,7 +39,7 @@ struct Begun<R: Read + Drop, W: Write + Drop> {
 /// is a task and its sheet is none that was refused. The end is
 ///
 /// * `Usage` only where the words are no command, or could not be fetched as text: nothing is written;
-/// * `NoTime` only where the words are one, but for the value of `--from` or `--to`, which is no time: nothing is written;
+/// * `NoValue` only where the words are one, but for the value of `--from` or `--to`, which is no time: nothing is written;
 /// * the `Outcome` of the judging that the words ask for, without the message of a write fault where `out` is a pipe whose reader is
 ///   gone: with their verb, at their rate, with hands where they say so, for a deck that does what the sheet says, from the first
 ///   record that may begin a command where they say `--sync`, with `explain` each exchange with its bytes where they say `--bytes`,
@@ -92,7 +92,7 @@ fn end_without<W: Write + Drop>(fault: WordsFault, out: W) -> (End, W)
             let (end, out) = tell_version(out);
             (End::Told(end), out)
         }
-        WordsFault::NoTime(text) => (End::NoTime(text), out),
+        WordsFault::NoValue(text) => (End::NoValue(text), out),
         WordsFault::NoMemory => (End::Told(Outcome::new(5, Message::NoMemory)), out),
     }
 }

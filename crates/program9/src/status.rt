@@ -1,9 +1,10 @@
 //! From the result of a judging to how the program ends.
 ghost use Rattle.std.specs.Prelude.{◌≡◌};
-ghost use Rattle.program9.specs.Outcome.{outcome_in_parts, outcome_made, outcome_of, outcome_refused, outcome_rewritten, outcome_told, outcome_tried};
+ghost use Rattle.program9.specs.Outcome.{outcome_drawn, outcome_in_parts, outcome_made, outcome_of, outcome_refused, outcome_rewritten, outcome_told, outcome_kept};
 
 use crate::ending::{Message, Outcome};
 use capture9::CaptureKind;
+use picture9::Drawn;
 use report9::{JudgeError, Totals, Verdict};
 use view9::{ClockFault, Ending};
 
@@ -74,14 +75,24 @@ pub fn outcome_told(told: &Result<(), JudgeError>) -> Outcome
     }
 }
 
-/// How the program ends after a capture was asked with several terms: as that came to, or after a refusal as [`outcome`] says. Takes no
-/// memory.
-pub(crate) fn outcome_tried(told: Result<Outcome, JudgeError>) -> Outcome
-    ensures { result ≡ outcome_tried told }
+/// How the program ends after what a capture is kept for: as that came to, or after a refusal as [`outcome`] says. Takes no memory.
+pub(crate) fn outcome_kept(told: Result<Outcome, JudgeError>) -> Outcome
+    ensures { result ≡ outcome_kept told }
 {
     match told {
         Ok(end) => end,
         Err(refusal) => outcome_refused(&refusal),
+    }
+}
+
+/// How the program ends after a picture was to be drawn: as [`outcome_made`] says of the judging, or with status 2 where there is
+/// nothing to draw. Takes no memory.
+pub fn outcome_drawn(drawn: &Drawn) -> Outcome
+    ensures { result ≡ outcome_drawn drawn.now }
+{
+    match drawn {
+        Drawn::Picture(ending) => outcome_made(&Ok(*ending)),
+        Drawn::Nothing(why) => Outcome::new(2, Message::NothingToDraw(*why)),
     }
 }
 

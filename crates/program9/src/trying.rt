@@ -13,6 +13,7 @@ mod hint;
 mod lines;
 mod terms;
 
+use crate::again::Kept;
 use crate::ending::{Message, Outcome};
 use crate::status::outcome_made;
 use crate::trying::asking::answers_to;
@@ -41,34 +42,33 @@ pub(crate) fn try_each<R: Read + Drop, W: Write>(
 ) -> Result<Outcome, JudgeError>
     ensures { TellsAnswers scope profile (R.remaining reader) (W.contents writer.old) result (W.contents writer.new) }
 {
-    let mut reader = reader;
-    let mut text = Vec::new(alloc);
-    if let Err(e) = reader.read_to_end(&mut text) {
-        return unkept(&e);
-    }
-    match answers_with_hints(alloc, text.as_slice(), scope, profile) {
+    let kept = match Kept::of(alloc, reader) {
+        Ok(kept) => kept,
+        Err(e) => return unkept(&e),
+    };
+    match answers_with_hints(alloc, &kept, scope, profile) {
         Ok((answers, hints)) => tell_answers(alloc, writer, answers.as_slice(), hints),
         Err(_) => Err(JudgeError::OutOfMemory),
     }
 }
 
 /// The answers to all terms, and what to say besides.
-fn answers_with_hints(
+fn answers_with_hints<R: Read + Drop>(
     alloc: Global,
-    text: &[u8],
+    kept: &Kept<R>,
     scope: Scope,
     own: Profile,
 ) -> Result<(Vec<Answer>, Message), AllocError>
-    ensures answers { IfOk result (λ both. AreAnswers scope own.deck text.now (all_terms own) both.0.items) }
+    ensures answers { IfOk result (λ both. AreAnswers scope own.deck kept.now.text.items (all_terms own) both.0.items) }
     ensures hints { IfOk result (λ both. IsHint both.1) }
 {
-    let answers = answers_to(alloc, text, scope, own)?;
-    let hints = hints_of(alloc, text, scope.beginning, answers.as_slice())?;
+    let answers = answers_to(alloc, kept, scope, own)?;
+    let hints = hints_of(alloc, kept.again(), scope.beginning, answers.as_slice())?;
     Ok((answers, hints))
 }
 
 /// What is told where the reader failed.
-fn unkept(e: &io::Error) -> Result<Outcome, JudgeError>
+pub(crate) fn unkept(e: &io::Error) -> Result<Outcome, JudgeError>
     ensures { IsUnkept result }
 {
     match e.kind() {

@@ -22,9 +22,10 @@ use Rattle.report9.specs.declared.verdict.Extent.TheVariants.{FirstBreak, WholeC
 use Rattle.report9.specs.declared.verdict.View.{View}
 use Rattle.report9.specs.declared.verdict.View.TheVariants as view
 use Rattle.words9.specs.declared.task.Asked.{Asked}
+use Rattle.words9.specs.declared.task.Drawing.{Drawing}
 use Rattle.words9.specs.declared.task.Report.{Report}
 use Rattle.words9.specs.declared.task.Made.TheVariants as made
-use Rattle.words9.specs.declared.task.Report.TheVariants.{Clock, Info, JsonRun, Made, Parts, Run, ToBreak, Try}
+use Rattle.words9.specs.declared.task.Report.TheVariants.{Clock, Info, JsonRun, Made, Parts, Picture, Run, ToBreak, Try}
 use Rattle.words9.specs.declared.task.Task.{Task}
 use Rattle.report9.specs.declared.time_form.TimeForm.{TimeForm}
 use Rattle.report9.specs.declared.time_form.TimeForm.TheVariants as form
@@ -92,6 +93,14 @@ from_rule = record (new_rule (codes "from")) { long = Some (codes "from"); value
 abbrev pub to_rule : Rule
 to_rule = record (new_rule (codes "to")) { long = Some (codes "to"); value_names = 1 }
 
+-- an option with the number of a record
+abbrev pub at_rule : Rule
+at_rule = record (new_rule (codes "at")) { long = Some (codes "at"); value_names = 1 }
+
+-- an option with a number of pixels
+abbrev pub width_rule : Rule
+width_rule = record (new_rule (codes "width")) { long = Some (codes "width"); value_names = 1 }
+
 -- an option that is there or not, which `clock` alone has
 abbrev pub seconds_rule : Rule
 seconds_rule = record (new_rule (codes "seconds")) { long = Some (codes "seconds"); action = Some SetTrue }
@@ -113,6 +122,7 @@ name_of verb.JsonWhy = codes "json why"
 name_of verb.Clock = codes "clock"
 name_of verb.Info = codes "info"
 name_of verb.Try = codes "try"
+name_of verb.Picture = codes "picture"
 
 -- what each subcommand has but `clock`, `info` and `try`: the word of its verb, and then the file and the options of the panel, of the capture's
 -- beginning, of the rate and of the deck's sheet
@@ -128,6 +138,9 @@ with_all_rules app = with_rule (with_rule app all_rule) line_buffered_rule
 
 abbrev pub with_stretch_rules : App → App
 with_stretch_rules app = with_rule (with_rule app from_rule) to_rule
+
+abbrev pub with_picture_rules : App → App
+with_picture_rules app = with_rule (with_rule app at_rule) width_rule
 
 abbrev pub clock_app : App
 clock_app = with_rule (with_rule (new_app (name_of verb.Clock)) file_rule) seconds_rule
@@ -156,6 +169,7 @@ app_for names verb.JsonWhy = with_stretch_rules (with_all_rules (plain_app_for n
 app_for names verb.Clock = clock_app
 app_for names verb.Info = info_app_for names
 app_for names verb.Try = try_app_for names
+app_for names verb.Picture = with_picture_rules (with_all_rules (plain_app_for names verb.Picture))
 
 -- the program, which wants a subcommand, and has a version; its own name is not among the words
 abbrev pub top : App
@@ -172,7 +186,7 @@ with_verb names app verb = with_subcommand app (app_for names verb).top
 abbrev pub program : RateNames → App
 program names =
     fold (with_verb names) top
-    (verb.Check ∷ verb.Explain ∷ verb.Run ∷ verb.Why ∷ verb.Digest ∷ verb.Delays ∷ verb.Motion ∷ verb.Json ∷ verb.JsonCheck ∷ verb.JsonExplain ∷ verb.JsonRun ∷ verb.JsonWhy ∷ verb.Clock ∷ verb.Info ∷ verb.Try ∷ [])
+    (verb.Check ∷ verb.Explain ∷ verb.Run ∷ verb.Why ∷ verb.Digest ∷ verb.Delays ∷ verb.Motion ∷ verb.Json ∷ verb.JsonCheck ∷ verb.JsonExplain ∷ verb.JsonRun ∷ verb.JsonWhy ∷ verb.Clock ∷ verb.Info ∷ verb.Try ∷ verb.Picture ∷ [])
 
 -- a report that `json` can be asked for
 abbrev pub is_asked : Text → Bool
@@ -229,6 +243,7 @@ report_of verb.JsonWhy all bytes seconds = Made (made.Json view.Why) (extent_of 
 report_of verb.Clock all bytes seconds = Clock (form_of seconds)
 report_of verb.Info all bytes seconds = Info
 report_of verb.Try all bytes seconds = Try (extent_of all)
+report_of verb.Picture all bytes seconds = Picture (extent_of all)
 
 -- with which record the judging begins, where the words say `--sync` or not
 abbrev pub beginning_of : Bool → Beginning
@@ -239,12 +254,13 @@ beginning_of false = FirstRecord
 abbrev pub has : Text → List Row → Bool
 has option rows = is_on (first_of option rows)
 
--- what a verb asks for with these rows, where this stretch is shown
-abbrev pub asked_of : Verb → List Row → Stretch → Asked
-asked_of verb rows stretch = record {
+-- what a verb asks for with these rows, where this stretch is shown, and this is asked of a picture
+abbrev pub asked_of : Verb → List Row → Stretch → Drawing → Asked
+asked_of verb rows stretch drawing = record {
   report = report_of verb (has (codes "all") rows) (has (codes "bytes") rows) (has (codes "seconds") rows);
   beginning = beginning_of (has (codes "sync") rows);
   stretch = stretch;
+  drawing = drawing;
   line_buffered = has (codes "line-buffered") rows;
 }
 
@@ -252,13 +268,18 @@ asked_of verb rows stretch = record {
 abbrev pub IsStretchOf : List Row → Stretch → Type 0
 IsStretchOf rows stretch = (first_of (codes "from") rows ≡ None → stretch.from_us ≡ 0) × (first_of (codes "to") rows ≡ None → stretch.to_us ≡ None)
 
+-- where no option names a record, the first break is drawn, and where none names a width, the picture may be 1,200 pixels wide
+abbrev pub IsDrawingOf : List Row → Drawing → Type 0
+IsDrawingOf rows drawing = (first_of (codes "at") rows ≡ None → drawing.at ≡ None) × (first_of (codes "width") rows ≡ None → drawing.width ≡ 1200)
+
 -- the program takes the words, and they give this task
 pub record GivesTask (names : RateNames) (words : List Text) (task : Task) : Type 0 where
   pub verb : Verb
   pub rows : List Row
   pub takes : TakesWords names words verb rows
-  pub asked : task.asked ≡ asked_of verb rows task.asked.stretch
+  pub asked : task.asked ≡ asked_of verb rows task.asked.stretch task.asked.drawing
   pub stretch : IsStretchOf rows task.asked.stretch
+  pub drawing : IsDrawingOf rows task.asked.drawing
   pub file : option_map string_bytes task.file ≡ first_of (codes "FILE") rows
   pub rate : task.rate ≡ rate_of (first_of (codes "rate") rows)
   pub hands : task.hands ≡ (if has (codes "hands") rows then hands.Allowed else hands.None)

@@ -12,5 +12,5 @@ mod times;
 mod usage;
 mod words;
 
-pub use task::{Asked, Made, NoTime, Report, Task, VERSION_LINE, Verb, WordsFault};
+pub use task::{Asked, Drawing, Made, NoValue, Report, Task, VERSION_LINE, Verb, WordsFault};
 pub use words::read_words;

@@ -42,6 +42,8 @@ pub enum Verb {
     Info,
     /// Asks with each rate, without hands and with, and with a sheet: `try`.
     Try,
+    /// Draws the record that breaks a rule: `picture`.
+    Picture,
 }
 
 /// What is made of the events of a capture, beside the program's own reports.
@@ -77,6 +79,17 @@ pub enum Report {
     /// The verdict or the totals of each judging with one of the rates, that of the task first, without hands and with, and without
     /// the sheet and with it, where there is one. Each goes so far.
     Try(Extent),
+    /// A picture of a break, of a judging that goes so far.
+    Picture(Extent),
+}
+
+/// What is asked of a picture.
+#[derive(Clone, Copy, Debug, PartialEq, Eq)]
+pub struct Drawing {
+    /// The number of the record whose break is drawn; none where the first break is.
+    pub at: Option<u32>,
+    /// How wide the picture may be, in pixels: 700 at least.
+    pub width: u32,
 }
 
 /// What is asked of a capture, whatever its deck is taken for.
@@ -88,6 +101,8 @@ pub struct Asked {
     pub beginning: Beginning,
     /// What is shown of it.
     pub stretch: Stretch,
+    /// What is asked of a picture, where one is drawn.
+    pub drawing: Drawing,
     /// Whether each line is handed on as soon as it is complete.
     pub line_buffered: bool,
 }
@@ -115,27 +130,37 @@ pub enum WordsFault {
     Usage(Option<Error>),
     /// The words ask for the program's version: [`VERSION_LINE`].
     Version,
-    /// The value of `--from` or of `--to` is no time.
-    NoTime(NoTime),
+    /// The value of `--from` or of `--to` is no time, or that of `--at` or of `--width` no number that it may be.
+    NoValue(NoValue),
     /// A growth of memory was refused.
     NoMemory,
 }
 
-/// An option whose value is no time. Its `Display` is the text for the user.
+/// An option with a value that it can't have. Its `Display` is the text for the user.
 #[derive(Debug, Drop, PartialEq, Eq)]
-pub struct NoTime {
+pub struct NoValue {
     /// The option's name, without the hyphens.
     pub option: &'static str,
     /// What was given.
     pub value: String,
 }
 
-impl fmt::Display for NoTime {
+impl fmt::Display for NoValue {
     fn fmt<W: fmt::Write>(&self, f: &mut fmt::Formatter<W>) -> fmt::Result {
         let (option, value) = (self.option, self.value.as_str());
+        let wanted = wanted_of(option);
         write!(
             f,
-            "error: invalid value '{value}' for '--{option} <TIME>': a time is seconds, such as 12.5, or a clock, such as 14:30:47.25\n\nFor more information, try '--help'."
+            "error: invalid value '{value}' for '--{option} {wanted}\n\nFor more information, try '--help'."
         )
+    }
+}
+
+/// What the value of an option is called, and what it may be.
+fn wanted_of(option: &str) -> &'static str {
+    match option {
+        "at" => "<RECORD>': a record has a number from 1 on",
+        "width" => "<PIXELS>': a width is a number from 700 on",
+        _ => "<TIME>': a time is seconds, such as 12.5, or a clock, such as 14:30:47.25",
     }
 }

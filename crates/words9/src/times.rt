@@ -1,4 +1,4 @@
-//! The times that options name.
+//! The times and the numbers that options name.
 ghost use Rattle.std.specs.Prelude.{◌<◌, ◌*◌, ◌^◌, IfSome};
 
 /// The most digits of a number in a time.
@@ -63,4 +63,13 @@ fn read_number(digits: &str) -> Option<u64>
     }
     let number: u32 = digits.parse().ok()?;
     Some(u64::from(number))
+}
+
+/// The number that digits name.
+pub(crate) fn read_count(word: &str) -> Option<u32> {
+    if word.bytes().all(|byte| byte.is_ascii_digit()) {
+        word.parse().ok()
+    } else {
+        None
+    }
 }

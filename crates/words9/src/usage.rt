@@ -3,7 +3,7 @@ ghost use Rattle.std.specs.Prelude.{◌≡◌, IfOk, false, map};
 ghost use Rattle.std.specs.String.{string_bytes};
 ghost use Rattle.clap.specs.Words.{FailsBy, app_of, fault_of, rule_of, subcommand_of, subcommand_rows_of, with_subcommand};
 ghost use Rattle.clap.specs.declared.builder.command.Command.TheViews.{out-Command as fields_of};
-ghost use Rattle.words9.specs.Words.{AreRateNames, all_rule, app_for, bytes_rule, clock_app, deck_rule, file_rule, from_rule, hands_rule, info_app_for, line_buffered_rule, name_of, plain_app_for, program, rate_rule, seconds_rule, sync_rule, to_rule, top, try_app_for, with_all_rules, with_bytes_rule, with_stretch_rules};
+ghost use Rattle.words9.specs.Words.{AreRateNames, all_rule, app_for, at_rule, bytes_rule, clock_app, deck_rule, file_rule, from_rule, hands_rule, info_app_for, line_buffered_rule, name_of, plain_app_for, program, rate_rule, seconds_rule, sync_rule, to_rule, top, try_app_for, width_rule, with_all_rules, with_bytes_rule, with_picture_rules, with_stretch_rules};
 
 use crate::task::{VERSION_LINE, Verb};
 use clap::{Arg, ArgAction, ArgMatches, Command, Error};
@@ -52,7 +52,8 @@ fn whole<'a>(alloc: Global, rates: &'a [&'a str]) -> Result<Command<'a>, AllocEr
     let command = with_verb(alloc, command, Verb::JsonWhy, rates)?;
     let command = with_verb(alloc, command, Verb::Clock, rates)?;
     let command = with_verb(alloc, command, Verb::Info, rates)?;
-    with_verb(alloc, command, Verb::Try, rates)
+    let command = with_verb(alloc, command, Verb::Try, rates)?;
+    with_verb(alloc, command, Verb::Picture, rates)
 }
 
 /// A command with the subcommand of a verb.
@@ -100,6 +101,7 @@ fn subcommand<'a>(
         Verb::Run | Verb::JsonRun | Verb::Clock | Verb::Info | Verb::Try => Ok(command),
         Verb::Check | Verb::Why => with_all(alloc, command),
         Verb::JsonCheck | Verb::JsonWhy => with_stretch(alloc, with_all(alloc, command)?),
+        Verb::Picture => with_picture(alloc, with_all(alloc, command)?),
         Verb::Explain => with_all(alloc, with_bytes(alloc, command)?),
         Verb::Digest | Verb::Delays | Verb::Motion | Verb::Json | Verb::JsonExplain => {
             let command = with_all(alloc, with_bytes(alloc, command)?)?;
@@ -130,6 +132,14 @@ fn with_stretch<'a>(alloc: Global, command: Command<'a>) -> Result<Command<'a>, 
     ensures local { (fields_of command.entry).has_globals ≡ false → IfOk result (λ c. (fields_of c).has_globals ≡ false) }
 {
     command.arg(from(alloc))?.arg(to(alloc))
+}
+
+/// The same command with the options of a picture.
+fn with_picture<'a>(alloc: Global, command: Command<'a>) -> Result<Command<'a>, AllocError>
+    ensures app { IfOk result (λ c. app_of c ≡ with_picture_rules (app_of command.entry)) }
+    ensures local { (fields_of command.entry).has_globals ≡ false → IfOk result (λ c. (fields_of c).has_globals ≡ false) }
+{
+    command.arg(at(alloc))?.arg(width(alloc))
 }
 
 /// The subcommand that writes the times of a text as a clock.
@@ -241,6 +251,27 @@ fn rate<'a>(alloc: Global, rates: &'a [&'a str]) -> Arg<'a>
         )
 }
 
+/// The option of the record whose break is drawn.
+fn at<'a>(alloc: Global) -> Arg<'a>
+    ensures rule { rule_of result ≡ at_rule }
+    ensures local { result.global ≡ false }
+{
+    Arg::new(alloc, "at").long("at").value_name("RECORD").help(
+        "With --all the break at this record; the first if left out",
+    )
+}
+
+/// The option of a picture's width.
+fn width<'a>(alloc: Global) -> Arg<'a>
+    ensures rule { rule_of result ≡ width_rule }
+    ensures local { result.global ≡ false }
+{
+    Arg::new(alloc, "width")
+        .long("width")
+        .value_name("PIXELS")
+        .help("The greatest width in pixels, from 700 on; 1200 if left out")
+}
+
 /// The option of the deck's sheet.
 fn deck<'a>(alloc: Global) -> Arg<'a>
     ensures rule { rule_of result ≡ deck_rule }
@@ -336,6 +367,7 @@ fn name_of<'a>(verb: Verb) -> &'a str
         Verb::Clock => "clock",
         Verb::Info => "info",
         Verb::Try => "try",
+        Verb::Picture => "picture",
     }
 }
 
@@ -366,5 +398,7 @@ fn about<'a>(verb: Verb) -> &'a str {
             "Tell what the capture says of itself, and what to look at before anybody is blamed; nothing is judged",
         Verb::Try =>
             "Judge the capture at each frame rate, without hands and with, and with a sheet: a line for each",
+        Verb::Picture =>
+            "Draw the record that breaks a rule, or the replies that contradict one another, as an SVG",
     }
 }

@@ -3,10 +3,10 @@ ghost use Rattle.std.specs.Prelude.{◌≡◌, ◌≢◌, IfOk, MatchOption, Opt
 ghost use Rattle.std.specs.String.{string_bytes};
 ghost use Rattle.clap.specs.Words.{first_of, found_of, kind_of, rows_of};
 ghost use Rattle.clap.specs.declared.error.Error.{Error as ClapError};
-ghost use Rattle.words9.specs.Words.{AsksVersion, IsNoTask, IsStretchOf, IsTaskOf, MayAskVersion, asked_of, beginning_of, extent_of, is_asked, is_on, joined, name_of, rate_named, rate_of, report_of, shown};
+ghost use Rattle.words9.specs.Words.{AsksVersion, IsNoTask, IsDrawingOf, IsStretchOf, IsTaskOf, MayAskVersion, asked_of, beginning_of, extent_of, is_asked, is_on, joined, name_of, rate_named, rate_of, report_of, shown};
 
-use crate::task::{Asked, Made, NoTime, Report, Task, Verb, WordsFault};
-use crate::times::read_time;
+use crate::task::{Asked, Drawing, Made, NoValue, Report, Task, Verb, WordsFault};
+use crate::times::{read_count, read_time};
 use crate::usage::{parsed, rate_names};
 use clap::error::ErrorKind;
 use clap::{ArgMatches, Error};
@@ -26,7 +26,8 @@ use tc25::Rate;
 /// * `Err(Usage)` only where it does not take them, and they are not those that ask for the version. Words that ask for
 ///   help are not taken.
 /// * `Err(Version)` only where they ask for the version, and that is, or may be, the first thing that stops the definition.
-/// * `Err(NoTime)` only where the definition takes the words, and a value of `--from` or `--to` is no time.
+/// * `Err(NoValue)` only where the definition takes the words, and a value of `--from` or `--to` is no time, or one of `--at` or
+///   `--width` no number that it may be.
 /// * `Err(NoMemory)` where a growth of memory is refused.
 pub fn read_words(alloc: Global, words: Vec<String>) -> Result<Task, WordsFault>
     ensures task { IfOk result (IsTaskOf (joined (map (λ s. string_bytes s) words.items))) }
@@ -62,6 +63,7 @@ fn read_joined(alloc: Global, words: &[String]) -> Result<Task, WordsFault>
         return Err(WordsFault::Usage(None));
     };
     let stretch = stretch_of(alloc, found)?;
+    let drawing = drawing_of(alloc, found)?;
     let Ok(file) = value_of(alloc, found, "FILE") else {
         return Err(WordsFault::NoMemory);
     };
@@ -74,7 +76,7 @@ fn read_joined(alloc: Global, words: &[String]) -> Result<Task, WordsFault>
         Hands::None
     };
     let rate = rate_of(found);
-    let asked = asked_of(verb, found, stretch);
+    let asked = asked_of(verb, found, stretch, drawing);
     Ok(Task {
         asked,
         file,
@@ -137,13 +139,50 @@ fn time_of(
     };
     match read_time(value.as_str()) {
         Some(time_us) => Ok(Some(time_us)),
-        None => Err(WordsFault::NoTime(NoTime { option, value })),
+        None => Err(WordsFault::NoValue(NoValue { option, value })),
     }
 }
 
-/// What the subcommand of this verb asks of the capture, by its options, where this stretch is shown.
-fn asked_of(verb: Verb, found: &ArgMatches<'_>, stretch: Stretch) -> Asked
-    ensures { result ≡ asked_of verb (rows_of (found_of found.now)) stretch }
+/// What the options ask of a picture: the first break, and a width of 1,200 pixels, where they ask for nothing else.
+fn drawing_of(alloc: Global, found: &ArgMatches<'_>) -> Result<Drawing, WordsFault>
+    ensures drawing { IfOk result (IsDrawingOf (rows_of (found_of found.now))) }
+    ensures usage { (o : Option ClapError) → result ≢ Err (WordsFault.Usage o) }
+    ensures version { result ≢ Err WordsFault.Version }
+{
+    let at = number_of(alloc, found, "at", 1)?;
+    let width = number_of(alloc, found, "width", 700)?;
+    Ok(Drawing {
+        at,
+        width: width.unwrap_or(1200),
+    })
+}
+
+/// The number that the subcommand was given with this option, which may be so small at least.
+fn number_of(
+    alloc: Global,
+    found: &ArgMatches<'_>,
+    option: &'static str,
+    least: u32,
+) -> Result<Option<u32>, WordsFault>
+    ensures none { IfOk result (λ number. first_of option.now (rows_of (found_of found.now)) ≡ None → number ≡ None) }
+    ensures usage { (o : Option ClapError) → result ≢ Err (WordsFault.Usage o) }
+    ensures version { result ≢ Err WordsFault.Version }
+{
+    let Ok(value) = value_of(alloc, found, option) else {
+        return Err(WordsFault::NoMemory);
+    };
+    let Some(value) = value else {
+        return Ok(None);
+    };
+    match read_count(value.as_str()) {
+        Some(number) if number >= least => Ok(Some(number)),
+        _ => Err(WordsFault::NoValue(NoValue { option, value })),
+    }
+}
+
+/// What the subcommand of this verb asks of the capture, by its options, where this stretch is shown and this is asked of a picture.
+fn asked_of(verb: Verb, found: &ArgMatches<'_>, stretch: Stretch, drawing: Drawing) -> Asked
+    ensures { result ≡ asked_of verb (rows_of (found_of found.now)) stretch drawing }
 {
     Asked {
         report: report_of(
@@ -154,6 +193,7 @@ fn asked_of(verb: Verb, found: &ArgMatches<'_>, stretch: Stretch) -> Asked
         ),
         beginning: beginning_of(is_given(found, "sync")),
         stretch,
+        drawing,
         line_buffered: is_given(found, "line-buffered"),
     }
 }
@@ -179,6 +219,7 @@ fn report_of(verb: Verb, all: bool, bytes: bool, seconds: bool) -> Report
         Verb::Clock => Report::Clock(TimeForm::Clock),
         Verb::Info => Report::Info,
         Verb::Try => Report::Try(extent_of(all)),
+        Verb::Picture => Report::Picture(extent_of(all)),
     }
 }
 
@@ -248,6 +289,7 @@ fn verb_of(name: &str) -> Option<Verb>
         "clock" => Some(Verb::Clock),
         "info" => Some(Verb::Info),
         "try" => Some(Verb::Try),
+        "picture" => Some(Verb::Picture),
         _ => None,
     }
 }

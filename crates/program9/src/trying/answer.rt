@@ -12,7 +12,7 @@ use report9::{
     put_verdict_line, put_word,
 };
 use std::alloc::{AllocError, Global};
-use std::io::sink;
+use std::io::{Read, sink};
 use view9::Ending;
 
 /// What `check` answers where a capture is asked with some terms.
@@ -63,21 +63,21 @@ impl Answer {
     }
 }
 
-/// Judges the text of a capture as `check` does.
-pub(crate) fn check(
+/// Judges a capture as `check` does.
+pub(crate) fn check<R: Read + Drop>(
     alloc: Global,
-    text: &[u8],
+    reader: R,
     scope: Scope,
     profile: &Profile,
 ) -> Result<Ending, JudgeError>
-    ensures { IsChecked scope profile.now text.now result }
+    ensures { IsChecked scope profile.now (R.remaining reader) result }
 {
     let mut nowhere = sink();
     match scope.extent {
         Extent::FirstBreak => {
             let judged = judge_for(
                 alloc,
-                text,
+                reader,
                 &mut nowhere,
                 View::Verdict,
                 scope.beginning,
@@ -88,7 +88,7 @@ pub(crate) fn check(
         Extent::WholeCapture => {
             let judged = judge_parts_for(
                 alloc,
-                text,
+                reader,
                 &mut nowhere,
                 View::Verdict,
                 scope.beginning,

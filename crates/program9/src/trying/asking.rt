@@ -1,22 +1,23 @@
 //! A capture that is asked with all terms, one after another.
-ghost use Rattle.std.specs.Prelude.{◌≡◌, None, IfOk};
+ghost use Rattle.std.specs.Prelude.{◌≡◌, None, Some, IfOk};
 ghost use Rattle.program9.specs.Trying.{AreAnswers, IsChecked, all_terms, profile_with};
 
+use crate::again::Kept;
 use crate::trying::answer::{Answer, check};
 use crate::trying::every_terms::every_terms;
 use crate::trying::terms::Terms;
 use deck9::{Hands, Profile};
 use report9::{JudgeError, Scope};
 use std::alloc::{AllocError, Global};
+use std::io::Read;
 use tc25::Rate;
 use view9::Ending;
 
 /// A capture that is asked.
 #[derive(Drop)]
-struct Asking<'a> {
+struct Asking<'a, R: Read + Drop> {
     alloc: Global,
-    /// The text of the capture.
-    text: &'a [u8],
+    kept: &'a Kept<R>,
     scope: Scope,
     /// A deck that does what the rules say of every deck, at the rate and with the hands that were asked with last.
     plain: Profile,
@@ -25,18 +26,18 @@ struct Asking<'a> {
 }
 
 /// The answers to all terms, in the order of the lines, of one whose own rate and sheet these are.
-pub(crate) fn answers_to(
+pub(crate) fn answers_to<R: Read + Drop>(
     alloc: Global,
-    text: &[u8],
+    kept: &Kept<R>,
     scope: Scope,
     own: Profile,
 ) -> Result<Vec<Answer>, AllocError>
-    ensures { IfOk result (λ answers. AreAnswers scope own.deck text.now (all_terms own) answers.items) }
+    ensures { IfOk result (λ answers. AreAnswers scope own.deck kept.now.text.items (all_terms own) answers.items) }
 {
     let all = every_terms(alloc, &own)?;
     let mut asking = Asking {
         alloc,
-        text,
+        kept,
         scope,
         plain: Profile::at(Rate::Fps25, Hands::None),
         with_sheet: own,
@@ -44,11 +45,11 @@ pub(crate) fn answers_to(
     asking.ask_with_each(all.as_slice())
 }
 
-impl Asking<'_> {
+impl<R: Read + Drop> Asking<'_, R> {
     /// Asks with each of these terms.
     fn ask_with_each(&mut self, all: &[Terms]) -> Result<Vec<Answer>, AllocError>
         requires { self.old.plain.deck ≡ None }
-        ensures { IfOk result (λ answers. AreAnswers self.old.scope self.old.with_sheet.deck self.old.text.now all.now answers.items) }
+        ensures { IfOk result (λ answers. AreAnswers self.old.scope self.old.with_sheet.deck self.old.kept.now.text.items all.now answers.items) }
     {
         let mut answers = Vec::new(self.alloc);
         for terms in all {
@@ -62,34 +63,34 @@ impl Asking<'_> {
     fn ask(&mut self, terms: Terms) -> Answer
         requires { self.old.plain.deck ≡ None }
         ensures terms { result.terms ≡ terms }
-        ensures checked { IsChecked self.old.scope (profile_with self.old.with_sheet.deck terms) self.old.text.now result.ended }
+        ensures checked { IsChecked self.old.scope (profile_with self.old.with_sheet.deck terms) (Some self.old.kept.now.text.items) result.ended }
         ensures plain { self.new.plain.deck ≡ None }
         ensures deck { self.new.with_sheet.deck ≡ self.old.with_sheet.deck }
         ensures scope { self.new.scope ≡ self.old.scope }
-        ensures text { self.new.text ≡ self.old.text }
+        ensures kept { self.new.kept ≡ self.old.kept }
     {
-        let (alloc, text, scope) = (self.alloc, self.text, self.scope);
+        let (alloc, reader, scope) = (self.alloc, self.kept.again(), self.scope);
         let ended = if terms.has_sheet {
-            check_with(alloc, text, scope, &mut self.with_sheet, terms)
+            check_with(alloc, reader, scope, &mut self.with_sheet, terms)
         } else {
-            check_with(alloc, text, scope, &mut self.plain, terms)
+            check_with(alloc, reader, scope, &mut self.plain, terms)
         };
         Answer { terms, ended }
     }
 }
 
-/// Judges the text of a capture as `check` does, of a deck with the rate and the hands of these terms.
-fn check_with(
+/// Judges a capture as `check` does, of a deck with the rate and the hands of these terms.
+fn check_with<R: Read + Drop>(
     alloc: Global,
-    text: &[u8],
+    reader: R,
     scope: Scope,
     profile: &mut Profile,
     terms: Terms,
 ) -> Result<Ending, JudgeError>
-    ensures checked { IsChecked scope (record { rate = terms.rate; hands = terms.hands; deck = profile.old.deck }) text.now result }
+    ensures checked { IsChecked scope (record { rate = terms.rate; hands = terms.hands; deck = profile.old.deck }) (R.remaining reader) result }
     ensures deck { profile.new.deck ≡ profile.old.deck }
 {
     profile.rate = terms.rate;
     profile.hands = terms.hands;
-    check(alloc, text, scope, profile)
+    check(alloc, reader, scope, profile)
 }

@@ -9,15 +9,16 @@ use capture9::Records;
 use info9::{Seeming, Sign, Signs};
 use report9::{Beginning, put_text};
 use std::alloc::{AllocError, Global};
+use std::io::Read;
 use tc25::Rate;
 
 /// So many records are looked at for signs: enough for all that bear on the answers, and quickly read.
 const MOST_LOOKED_AT: u32 = 400_000;
 
 /// The lines, or nothing: which terms make it a yes where the first do not, and the signs that bear on the answers.
-pub(crate) fn hints_of(
+pub(crate) fn hints_of<R: Read + Drop>(
     alloc: Global,
-    text: &[u8],
+    reader: R,
     beginning: Beginning,
     answers: &[Answer],
 ) -> Result<Message, AllocError>
@@ -25,7 +26,7 @@ pub(crate) fn hints_of(
 {
     let mut lines = Vec::new(alloc);
     let rate = put_best(&mut lines, answers)?;
-    let signs = signs_of(alloc, text, beginning, rate);
+    let signs = signs_of(alloc, reader, beginning, rate);
     put_signs(&mut lines, &signs)?;
     Ok(message_of(lines))
 }
@@ -98,9 +99,9 @@ fn bears_on_answers(what: &Seeming) -> bool {
 }
 
 /// What the first records of a capture show, where times are read at this rate.
-fn signs_of(alloc: Global, text: &[u8], beginning: Beginning, rate: Rate) -> Signs {
+fn signs_of<R: Read + Drop>(alloc: Global, reader: R, beginning: Beginning, rate: Rate) -> Signs {
     let mut signs = Signs::new(rate, beginning);
-    let mut records = Records::new(alloc, text, MOST_LOOKED_AT);
+    let mut records = Records::new(alloc, reader, MOST_LOOKED_AT);
     for _ in 0..MOST_LOOKED_AT {
         match records.next() {
             Ok(Some(record)) => signs.take(&record),

@@ -7,7 +7,7 @@ use program9::{Buffered, Job, Message, Outcome, judge_and_flush};
 use report9::{Beginning, Detail, Stretch, View};
 use std::alloc::{AllocError, Global};
 use std::io::Write;
-use words9::{Asked, Report};
+use words9::{Asked, Drawing, Report};
 
 /// PLAY and its acknowledgement.
 const PLAY: &str =
@@ -30,6 +30,10 @@ fn judged(alloc: Global, text: &str, report: Report, writer: Narrow) -> Option<(
         report,
         beginning: Beginning::FirstRecord,
         stretch: Stretch::ALL,
+        drawing: Drawing {
+            at: None,
+            width: 1200,
+        },
         line_buffered: false,
     };
     let profile = Profile::of(Hands::None);

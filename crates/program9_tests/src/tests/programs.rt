@@ -71,7 +71,7 @@ fn end_on(rt: &HostRuntime, words: &[&str], writer: Narrow) -> (End, Narrow) {
 /// Whether the program ends so.
 pub(super) fn is_told(end: &End, status: u8, message: Message) -> bool {
     match end {
-        End::Usage(_) | End::NoTime(_) => false,
+        End::Usage(_) | End::NoValue(_) => false,
         End::Told(outcome) => { end.status() == status && *outcome == Outcome { status, message } }
     }
 }

@@ -5,7 +5,7 @@ use deck9::Hands;
 use report9::{Beginning, Detail, Stretch, View};
 use std::alloc::{AllocError, Global};
 use tc25::Rate;
-use words9::{Asked, Report, Task, WordsFault, read_words};
+use words9::{Asked, Drawing, Report, Task, WordsFault, read_words};
 
 /// What the verdict alone asks for, each exchange with its names, and why.
 const VERDICT: View = View::Verdict;
@@ -210,6 +210,10 @@ fn what_words_ask_for(rt: HostRuntime) {
             report: *report,
             beginning,
             stretch: Stretch::ALL,
+            drawing: Drawing {
+                at: None,
+                width: 1200,
+            },
             line_buffered: *line_buffered,
         };
         same(&rt, task.asked, asked, *words);

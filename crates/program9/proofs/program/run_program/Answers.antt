@@ -15,7 +15,7 @@ ends_words : {R S W : Type 0} (streams : Streams R S W) (given : List (List ℕ)
     → EndsWithout fault (streams.contents out) told now → EndsWords streams given out told now
 ends_words streams given out (words.Usage o) told now usage version (is, kept) = rw is (let none = usage o refl in (none.0, none.1, kept))
 ends_words streams given out words.Version told now usage version (outcome, is, tells) = rw is (inr (inl (version refl, tells)))
-ends_words streams given out (words.NoTime text) told now usage version (is, kept) = rw is kept
+ends_words streams given out (words.NoValue text) told now usage version (is, kept) = rw is kept
 ends_words streams given out words.NoMemory told now usage version (is, kept) = rw is (inl (refl, kept))
 
 pub returns-in-Ok-read_words : goal.returns-in-Ok-read_words

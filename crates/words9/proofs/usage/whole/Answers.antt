@@ -21,4 +21,5 @@ returns c =
     let with_JsonWhy = c.in_ok-command-12.ensures ∙ ap (λ app. with_verb names app verb.JsonWhy) with_JsonRun in
     let with_Clock = c.in_ok-command-13.ensures ∙ ap (λ app. with_verb names app verb.Clock) with_JsonWhy in
     let with_Info = c.in_ok-command-14.ensures ∙ ap (λ app. with_verb names app verb.Info) with_Clock in
-    IfOk-weaker c.with_verb-15.result _ _ (λ command is. is ∙ ap (λ app. with_verb names app verb.Try) with_Info) c.with_verb-15.ensures
+    let with_Try = c.in_ok-command-15.ensures ∙ ap (λ app. with_verb names app verb.Try) with_Info in
+    IfOk-weaker c.with_verb-16.result _ _ (λ command is. is ∙ ap (λ app. with_verb names app verb.Picture) with_Try) c.with_verb-16.ensures

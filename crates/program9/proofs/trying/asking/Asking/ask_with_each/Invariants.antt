@@ -4,10 +4,10 @@ use Rattle.program9.specs.Trying.{AreAnswers}
 use Rattle.program9.proofs.trying.asking.Asking.ask_with_each.Given as goal
 
 abbrev pub invariant-loop-terms : goal.invariant-loop-terms
-invariant-loop-terms l = record {
+invariant-loop-terms g l = record {
   plain : l.self.plain.deck ≡ None;
   deck : l.self.with_sheet.deck ≡ l.fn.self.with_sheet.deck;
   scope : l.self.scope ≡ l.fn.self.scope;
-  text : l.self.text ≡ l.fn.self.text;
-  are : AreAnswers l.fn.self.scope l.fn.self.with_sheet.deck l.fn.self.text.now (take l.terms-index l.all) l.answers.items;
+  kept : l.self.kept ≡ l.fn.self.kept;
+  are : AreAnswers l.fn.self.scope l.fn.self.with_sheet.deck l.fn.self.kept.now.text.items (take l.terms-index l.all) l.answers.items;
 }

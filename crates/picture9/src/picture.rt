@@ -1,0 +1,199 @@
+//! A picture of a capture, as it is asked for and written.
+
+use crate::around::{TALL, draw_around};
+use crate::choice::{Choice, choose};
+use crate::contradiction::{Columns, draw_rows, known_line};
+use crate::exchange_row::rows_of;
+use crate::layout::lay_out;
+use crate::look::Look;
+use crate::reading::{Asked, read_around};
+use crate::sentence::put_sentence;
+use crate::shapes::{MARGIN, draw_text};
+use crate::svg::{Done, Svg};
+use block9::Reason;
+use deck9::Profile;
+use report9::{Extent, JudgeError, Scope, WhyNo, put_no_line, write_all};
+use std::alloc::Global;
+use std::io::{Read, Write};
+use view9::Ending;
+
+/// What is asked of a picture besides the judging.
+#[derive(Clone, Copy, Debug, PartialEq, Eq)]
+pub struct Wanted {
+    /// The number of the record whose break is drawn; none where the first break is.
+    pub at: Option<u32>,
+    /// How wide the picture may be, in pixels. It is 700 at least, and wider where what breaks the rule would not fit.
+    pub width: u32,
+}
+
+/// Why there is nothing to draw.
+#[derive(Clone, Copy, Debug, PartialEq, Eq)]
+pub enum WhyNothing {
+    /// The verdict is a yes.
+    Yes,
+    /// No part breaks.
+    NoPartBreaks,
+    /// There is no break at this record.
+    NoBreakAt(u32),
+}
+
+/// What came of it.
+#[derive(Clone, Copy, Debug, PartialEq, Eq)]
+pub enum Drawn {
+    /// The picture was written, of a judging that ended so.
+    Picture(Ending),
+    /// There is nothing to draw, and nothing was written.
+    Nothing(WhyNothing),
+}
+
+/// A capture, to be read twice.
+#[derive(Drop)]
+pub struct Twice<R: Read + Drop> {
+    /// For the judging.
+    pub first: R,
+    /// For the records around the break.
+    pub second: R,
+}
+
+/// Draws the record of a capture that breaks a rule, as an SVG: both wires over time, each byte a box, and what stands before and
+/// after it; and where no run of the deck remains the replies that contradict one another, a row for each. Both readers give
+/// the whole capture. It is judged as the scope says, of a deck that is taken for this. Of all parts one break is drawn: the first, or the
+/// one at the record that is wanted. A late reply ends no part there.
+///
+/// Nothing is written before the judging ended, and nothing where there is an error that is not `Write`. Errors are those of the
+/// judging.
+pub fn write_picture<R: Read + Drop, W: Write>(
+    alloc: Global,
+    capture: Twice<R>,
+    writer: &mut W,
+    scope: Scope,
+    profile: &Profile,
+    wanted: &Wanted,
+) -> Result<Drawn, JudgeError> {
+    let Twice { first, second } = capture;
+    let (choice, ending) = choose(alloc, first, scope, profile, wanted.at)?;
+    let Some(svg) = draw(alloc, second, scope, profile, wanted.width, &choice)? else {
+        return Ok(Drawn::Nothing(why_nothing(&choice, scope.extent, wanted.at)));
+    };
+    write_all(writer, svg.as_slice())?;
+    Ok(Drawn::Picture(ending))
+}
+
+/// Why there is nothing to draw.
+fn why_nothing(choice: &Choice, extent: Extent, at: Option<u32>) -> WhyNothing {
+    match (choice.is_broken, extent, at) {
+        (false, Extent::FirstBreak, _) => WhyNothing::Yes,
+        (true, _, Some(at)) => WhyNothing::NoBreakAt(at),
+        _ => WhyNothing::NoPartBreaks,
+    }
+}
+
+/// Draws the break that was chosen, where one was.
+fn draw<R: Read + Drop>(
+    alloc: Global,
+    reader: R,
+    scope: Scope,
+    profile: &Profile,
+    width: u32,
+    choice: &Choice,
+) -> Result<Option<Svg>, JudgeError> {
+    let Some(why) = &choice.why else {
+        return Ok(None);
+    };
+    let WhyNo::Break { at, reason, .. } = why else {
+        return draw_contradiction(alloc, reader, profile, why);
+    };
+    let asked = Asked {
+        at: *at,
+        judged_to: choice.judged_to(scope.extent, *at, *reason),
+        before: choice.before,
+        beginning: scope.beginning,
+    };
+    draw_break(alloc, reader, &asked, why, width)
+}
+
+/// Draws the records around one that breaks a rule; nothing of a contradiction.
+fn draw_break<R: Read + Drop>(
+    alloc: Global,
+    reader: R,
+    asked: &Asked,
+    why: &WhyNo,
+    width: u32,
+) -> Result<Option<Svg>, JudgeError> {
+    let WhyNo::Break {
+        reason,
+        open,
+        breaking,
+        ..
+    } = why
+    else {
+        return Ok(None);
+    };
+    let seen = read_around(alloc, reader, asked)?;
+    let limit_us = reason.limit_us();
+    let Some(layout) = lay_out(alloc, seen.as_slice(), asked, limit_us, width)? else {
+        return Ok(None);
+    };
+    let mut below = Vec::new(alloc);
+    put_sentence(&mut below, *reason, open.sum, breaking.byte)?;
+    let mut svg = Svg::new(alloc);
+    let verdict = (asked.at, *reason);
+    put_head(&mut svg, (layout.wide, TALL), verdict, below.as_slice())?;
+    draw_around(&mut svg, &layout)?;
+    svg.put_mark("</svg>\n")?;
+    Ok(Some(svg))
+}
+
+/// Draws the replies that contradict one another; nothing of a break.
+fn draw_contradiction<R: Read + Drop>(
+    alloc: Global,
+    reader: R,
+    profile: &Profile,
+    why: &WhyNo,
+) -> Result<Option<Svg>, JudgeError> {
+    let WhyNo::Contradiction {
+        at,
+        exchanges,
+        places,
+        known,
+        shown,
+    } = why
+    else {
+        return Ok(None);
+    };
+    let (exchanges, places) = (exchanges.as_slice(), places.as_slice());
+    let rows = rows_of(alloc, reader, profile, *at, exchanges, places)?;
+    let below = known_line(alloc, profile, known, *shown)?;
+    let columns = Columns::of(rows.as_slice(), below.as_slice());
+    let size = (columns.wide, columns.tall.saturating_add(44));
+    let mut svg = Svg::new(alloc);
+    let verdict = (*at, Reason::NoRun);
+    let sentence = b"No deck can have given all of these replies.";
+    put_head(&mut svg, size, verdict, sentence)?;
+    draw_rows(&mut svg, rows.as_slice(), &columns, below.as_slice())?;
+    svg.put_mark("</svg>\n")?;
+    Ok(Some(svg))
+}
+
+/// Puts the head of a picture that is so wide and so tall: the no at a record by a reason, and a sentence below it.
+fn put_head(
+    svg: &mut Svg,
+    (wide, tall): (u64, u64),
+    (at, reason): (u32, Reason),
+    below: &[u8],
+) -> Done {
+    let mut line = Vec::new(svg.alloc());
+    put_no_line(&mut line, at, reason)?;
+    let verdict = line.as_slice().strip_suffix(b"\n").unwrap_or(&[]);
+    svg.put_place("<svg xmlns=\"http://www.w3.org/2000/svg\" width=\"", wide)?;
+    svg.put_whole("\" height=\"", tall)?;
+    svg.put_place("\" viewBox=\"0 0 ", wide)?;
+    svg.put_whole(" ", tall)?;
+    svg.put_mark("\" style=\"max-width:100%;height:auto\"")?;
+    svg.put_mark(" font-family=\"DejaVu Sans Mono, Menlo, Consolas, monospace\"")?;
+    svg.put_mark(" font-size=\"12\">\n<title>")?;
+    svg.put_foreign(verdict)?;
+    svg.put_mark("</title>\n<rect width=\"100%\" height=\"100%\" fill=\"#ffffff\"/>\n")?;
+    draw_text(svg, (MARGIN, 28), Look::Headline, verdict)?;
+    draw_text(svg, (MARGIN, 48), Look::Time, below)
+}

@@ -1,0 +1,149 @@
+//! The second reading of a capture: the records around one of them.
+
+use crate::blocks::{Blocks, Seen};
+use crate::choice::Broke;
+use crate::svg::Done;
+use block9::{BYTE_GAP_US, Reason};
+use capture9::{GREATEST_LIMIT, LineByte, Records, Wire};
+use report9::{Beginning, JudgeError};
+use std::alloc::{AllocError, Global};
+use std::io::Read;
+
+/// How many records before the one that breaks may be drawn.
+const RECORDS_BEFORE: u32 = 240;
+
+/// How many records after it may be drawn.
+const RECORDS_AFTER: u32 = 80;
+
+/// What is read a second time.
+#[derive(Clone, Copy)]
+pub(crate) struct Asked {
+    /// The number of the record that breaks.
+    pub(crate) at: u32,
+    /// The last record that was judged.
+    pub(crate) judged_to: u32,
+    /// The break that ended the part before.
+    pub(crate) before: Option<Broke>,
+    pub(crate) beginning: Beginning,
+}
+
+/// The reading, up to the record that breaks.
+#[derive(Drop)]
+struct Reading {
+    asked: Asked,
+    last: Option<LineByte>,
+    /// Whether the part was begun.
+    is_begun: bool,
+    blocks: Blocks,
+    seen: Vec<Seen>,
+}
+
+/// Reads the records of the part around the one that breaks, of the whole capture. Behind that one a bad row ends them, as nothing was
+/// judged there.
+pub(crate) fn read_around<R: Read + Drop>(
+    alloc: Global,
+    reader: R,
+    asked: &Asked,
+) -> Result<Vec<Seen>, JudgeError> {
+    let mut records = Records::new(alloc, reader, GREATEST_LIMIT);
+    let mut reading = Reading {
+        asked: *asked,
+        last: None,
+        is_begun: false,
+        blocks: Blocks::NONE,
+        seen: Vec::new(alloc),
+    };
+    for number in 1..=asked.at {
+        let Some(record) = records.next()? else {
+            break;
+        };
+        reading.take(number, record)?;
+    }
+    let after = read_after(alloc, &mut records)?;
+    reading.take_after(after.as_slice())?;
+    Ok(reading.seen)
+}
+
+/// Reads some records more, as far as they can be read.
+fn read_after<R: Read + Drop>(
+    alloc: Global,
+    records: &mut Records<R>,
+) -> Result<Vec<LineByte>, AllocError> {
+    let mut after = Vec::new(alloc);
+    for _ in 0..RECORDS_AFTER {
+        match records.next() {
+            Ok(Some(record)) => after.push(record)?,
+            _ => break,
+        }
+    }
+    Ok(after)
+}
+
+impl Reading {
+    /// Takes a record up to the one that breaks.
+    fn take(&mut self, number: u32, record: LineByte) -> Done {
+        self.is_begun = self.is_begun || self.asked.begins_part(number, record, self.last);
+        self.last = Some(record);
+        if !self.is_begun {
+            return Ok(());
+        }
+        let seen = self.blocks.take(number, record);
+        if number.saturating_add(RECORDS_BEFORE) >= self.asked.at {
+            self.seen.push(seen)?;
+        }
+        Ok(())
+    }
+
+    /// Takes the records after that.
+    fn take_after(&mut self, after: &[LineByte]) -> Done {
+        let mut number = self.asked.at;
+        for (place, record) in after.iter().enumerate() {
+            number = number.saturating_add(1);
+            let last = self.last.map_or(record.wire, |last| last.wire);
+            if number > self.asked.judged_to {
+                let rest = after.get(place..).unwrap_or(&[]);
+                self.blocks.end_unless_goes_on(last, *record, rest);
+            }
+            self.last = Some(*record);
+            self.seen.push(self.blocks.take(number, *record))?;
+        }
+        Ok(())
+    }
+}
+
+impl Asked {
+    /// Whether the part begins with this record, which comes after `last`.
+    fn begins_part(&self, number: u32, record: LineByte, last: Option<LineByte>) -> bool {
+        match self.before {
+            Some(broke) if number < broke.at => false,
+            Some(broke) if number == broke.at => {
+                record.wire == Wire::Controller && ends_before(broke.reason)
+            }
+            None if self.beginning == Beginning::FirstRecord => true,
+            _ => may_begin(record, last),
+        }
+    }
+}
+
+/// Whether a part ends before the record that breaks by this reason, which may then be the first of the next part.
+fn ends_before(reason: Reason) -> bool {
+    matches!(
+        reason,
+        Reason::NoReply | Reason::CommandBeforeReply | Reason::CommandInsideReply | Reason::ByteGap
+    )
+}
+
+/// Whether a record may begin a command: it is the controller's, and comes after one of the deck, or after a pause that is longer than
+/// any inside a block. The first record never may.
+fn may_begin(record: LineByte, last: Option<LineByte>) -> bool {
+    let Some(last) = last else {
+        return false;
+    };
+    match (record.wire, last.wire) {
+        (Wire::Deck, _) => false,
+        (Wire::Controller, Wire::Deck) => true,
+        (Wire::Controller, Wire::Controller) => {
+            record.time_us.saturating_sub(last.time_us) > BYTE_GAP_US
+        }
+    }
+}
