@@ -37,7 +37,8 @@ for capture in examples/late-reply.csv examples/disputed-in-point.csv; do
     expect "$capture, a reader of the script that has gone" 4 '' ''
 done
 run picture < .
-expect 'a directory as input' 4 '' "$(both_lines 'read fault at row 0')"
+expect 'a directory as input' 4 '' "read fault
+the text can't be read to its end"
 run picture < /dev/null
 expect 'an empty device' 3 '' "$(both_lines 'unreadable at row 0: header')"
 (
