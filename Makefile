@@ -41,7 +41,6 @@ install: built
 	install -D -m 755 $(PROGRAM) "$(to)/lib/ninecheck/ninecheck"
 	install -D -m 644 -t "$(to)/share/ninecheck/convert" convert/*
 	install -D -m 644 -t "$(to)/share/ninecheck/view" view/*.*
-	install -D -m 644 -t "$(to)/share/ninecheck/view/page" view/page/*
 	install -D -m 644 -t "$(to)/share/ninecheck/decks" decks/*.toml
 	install -D -m 644 -t "$(to)/share/ninecheck/examples" examples/*.csv examples/*.toml examples/ANSWERS
 	install -D -m 644 -t "$(to)/share/ninecheck/examples/exports" examples/exports/*

@@ -51,7 +51,7 @@ name_file() {
     case $3 in '' | /*) ;; *) named+=("$3"); words[$1]=$2$PWD/$3 ;; esac
 }
 case ${1-} in
-    check | explain | run | why | digest | delays | motion | json | clock | info | try | picture) name_files ;;
+    check | explain | run | why | digest | delays | motion | json | clock | info | try | picture | page) name_files ;;
     *) reads_input=false ;;
 esac
 

@@ -6,13 +6,12 @@ _ninecheck_options() {
     case $1 in
         check) echo "$judging --help" ;;
         explain) echo "--bytes $judging --help" ;;
-        digest | delays | motion | json | 'json explain') echo "--bytes $judging --from --to --help" ;;
+        digest | delays | motion | page | json | 'json explain') echo "--bytes $judging --from --to --help" ;;
         'json check' | 'json why') echo "$judging --from --to --help" ;;
         why) echo "$judging --quiet --help" ;;
         run | 'json run') echo '--hands --sync --rate --deck --help' ;;
         picture) echo "$judging --at --width --help" ;;
         touches) echo '--sync --rate --deck --help' ;;
-        page) echo '--hands --sync --rate --deck --help' ;;
         try) echo '--all --sync --rate --deck --help' ;;
         clock) echo '--seconds --help' ;;
         info) echo '--sync --rate --help' ;;

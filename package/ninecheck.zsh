@@ -61,10 +61,10 @@ local -a shown=('--from[show what comes at this time or later]:time:' '--to[show
 case $asked in
     check) options=($hands $sync $rate $sheet $all $buffered) ;;
     explain) options=($bytes $hands $sync $rate $sheet $all $buffered) ;;
-    digest | delays | motion | json | 'json explain') options=($bytes $hands $sync $rate $sheet $all $buffered $shown) ;;
+    digest | delays | motion | page | json | 'json explain') options=($bytes $hands $sync $rate $sheet $all $buffered $shown) ;;
     'json check' | 'json why') options=($hands $sync $rate $sheet $all $buffered $shown) ;;
     why) options=($hands $sync $rate $sheet $all $buffered '--quiet[without the line that says what to ask next]') ;;
-    run | page | 'json run') options=($hands $sync $rate $sheet) ;;
+    run | 'json run') options=($hands $sync $rate $sheet) ;;
     touches) options=($sync $rate $sheet) ;;
     picture)
         options=($hands $sync $rate $sheet $all $buffered

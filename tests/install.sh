@@ -159,6 +159,7 @@ ninecheck json why -|--all --deck --from --hands --help --line-buffered --rate -
 ninecheck clock --s|--seconds|--seconds
 ninecheck info -|--help --rate --sync -h|--help --rate --sync -h
 ninecheck picture -|--all --at --deck --hands --help --line-buffered --rate --sync --width -h|--all --at --deck --hands --help --line-buffered --rate --sync --width -h
+ninecheck page -|--all --bytes --deck --from --hands --help --line-buffered --rate --sync --to -h|--all --bytes --deck --from --hands --help --line-buffered --rate --sync --to -h
 ninecheck convert |log saleae sigrok|log saleae sigrok
 ninecheck convert log --unit |ms us|ms us
 ninecheck check --a|--all|--all
@@ -235,8 +236,8 @@ complete_words ninecheck json run --
 expect 'options of a run in objects are offered' 0 '--hands --sync --rate --deck --help' ''
 complete_words ninecheck json exp
 expect 'a report is completed' 0 'explain' ''
-complete_words ninecheck page --
-expect 'options of a word that is not the program'"'"'s own' 0 '--hands --sync --rate --deck --help' ''
+complete_words ninecheck touches --
+expect 'options of a word that is not the program'"'"'s own' 0 '--sync --rate --deck --help' ''
 complete_words ninecheck convert s
 expect 'exports are offered' 0 'sigrok saleae' ''
 complete_words ninecheck convert log --unit ''

@@ -1,26 +1,23 @@
 #!/usr/bin/env bash
-# Makes pages of small captures written by hand, under each awk, and reads them: the head, what stands where over time, the lines
-# and tables below it, what a page leaves out, and what is refused. Each page is HTML by the parsers of tidy and html5lib, and
-# loads nothing. The last line is 'N passed, M failed'.
+# Makes pages of small captures written by hand, and reads them: the head, what stands where over time, the lines and tables below it,
+# what a page leaves out, and what is refused. Each page is HTML by the parsers of tidy and html5lib, and loads nothing. The last line
+# is 'N passed, M failed'.
 set -u
 cd "$(dirname "$0")/.." || exit 1
 . tests/lib/tools.sh
-need_tools mawk gawk busybox tidy
+need_tools tidy
 need_module html5lib python3-html5lib
 . tests/lib/judge.sh
 . tests/lib/program.sh
-. tests/lib/awk.sh
 . tests/lib/blocks.sh
 mkdir "$work/captures"
 
-# page [WORDS...]: the page of $work/capture.csv, under the name $name and with these words, as `ninecheck` makes it under $awk; its
-# streams are left in $work/out and $work/err.
+# page [WORDS...]: the page of $work/capture.csv, under the name $name and with these words; its streams are left in $work/out and
+# $work/err.
 name=night.csv
 page() {
-    local script
-    script=$(script_under "$awk")
     [ ! -e "$work/capture.csv" ] || cp "$work/capture.csv" "$work/captures/$name"
-    (cd "$work/captures" && "$script" page "$@" "$name") > "$work/out" 2> "$work/err"
+    (cd "$work/captures" && "$program" page "$@" "$name") > "$work/out" 2> "$work/err"
     status=$?
 }
 
@@ -33,17 +30,17 @@ page_of() {
 # has NAME TEXT..., lacks NAME TEXT...: counts for each text whether the page has it, as it stands.
 has() {
     local text
-    for text in "${@:2}"; do judge "$awk: $1: $text" grep -qF -- "$text" "$work/out"; done
+    for text in "${@:2}"; do judge "$1: $text" grep -qF -- "$text" "$work/out"; done
 }
 lacks() {
     local text
-    for text in "${@:2}"; do judge "$awk: $1: no $text" lacks_text "$text"; done
+    for text in "${@:2}"; do judge "$1: no $text" lacks_text "$text"; done
 }
 lacks_text() { [ -s "$work/out" ] && ! grep -qF -- "$1" "$work/out"; }
 
 # counts NAME NUMBER TEXT: counts whether so often the page has this text.
 counts() {
-    judge "$awk: $1: $2 times $3, not $(times_of "$3")" [ "$(times_of "$3")" = "$2" ]
+    judge "$1: $2 times $3, not $(times_of "$3")" [ "$(times_of "$3")" = "$2" ]
 }
 times_of() { grep -oF -- "$1" "$work/out" | wc -l; }
 
@@ -60,14 +57,14 @@ session_of() {
 
 clean() {
     page_of "$(session_of 0 17600)"
-    judge "$awk: a clean session" [ "$status" = 0 ]
+    judge "a clean session" [ "$status" = 0 ]
     has 'the head of a clean session' '<title>0 breaks: night.csv</title>' '<h1>0 breaks</h1>' \
         'Every record keeps the rules, and a deck can have given these replies.' \
         'shown mode known at 20.0 % of the exchanges, IN at 80.0 %, OUT at 0.0 %, local at 100.0 %.' \
         '<dt>Begins</dt><dd>00:00:00.000</dd>' '<dt>Ends</dt><dd>00:00:00.100</dd>' '<dt>Lasts</dt><dd>100.0 ms</dd>' \
         '<dt>Records</dt><dd>44</dd>' '<dt>Exchanges</dt><dd>5</dd>' '<dt>Passed over</dt><dd>0</dd>' \
         '<dt>Open at the end</dt><dd>0</dd>' '25 frames a second, nobody at the panel, no deck sheet <code>--all</code>'
-    has 'the lanes of a clean session' '<b class="name">Breaks</b></div><div class="chart"></div><div class="scale">none</div>' \
+    has 'the lanes of a clean session' '<b class="name">Breaks</b></div>' '<div class="chart"></div><div class="scale">none</div>' \
         'exchanges a second in bins of 2 ms' '<span class="top">600</span>' 'V9.3H40.00V56.0H60.00' \
         'M20.00 130V122.6H40.00V130Z' 'M240.00 130V115.1H260.00V130Z' 'M20.00 122.1H40.00' \
         '<path class="limit" d="M0 43.8H1000"/>' \
@@ -99,7 +96,7 @@ clean() {
 # A late reply breaks a rule, and what is known goes on over it.
 late() {
     page_of "$(session_of 10800 6800)"
-    judge "$awk: a late reply" [ "$status" = 1 ]
+    judge "a late reply" [ "$status" = 1 ]
     has 'a late reply' '<h1 class="bad">1 break</h1>' \
         '<p class="lead">Record <a href="#r22">22</a> at 00:00:00.052: L1 late reply. The reply to PLAY began 11,200 &#181;s after it.</p>' \
         '<a class="mark" href="#r22" style="left:52.000%" title="L1 late reply, record 22, 00:00:00.052"' \
@@ -123,7 +120,7 @@ restored() {
         '<span>known again: shown STOP, in set, out clear, local yes, ain clear, aout clear</span></li>' \
         '<span class="soft">record 43</span><span>known again: in 10:00:00:00</span></li>'
     page_of "$remote D 10 C 61 20 01 82 D 71 20 01 92"
-    has 'known otherwise' '<span class="soft">record 17</span><span>STATUS SENSE &rarr; 71 20, local: unknown &rArr; yes</span></li>'
+    has 'known otherwise' '<span class="soft">record 17</span><span>STATUS SENSE &rarr; 71 20, local: no, unknown &rArr; yes</span></li>'
     page_of "$play D 10 $preset C 20 01 21 +9000 D 10 01 11 $play D 10"
     has 'three breaks' '<h1 class="bad">3 breaks</h1>' \
         'Reply without a command 2; late reply 1. The first is <a href="#r7">record 7</a> at 00:00:00.002.'
@@ -154,10 +151,40 @@ words() {
         'from the first record that may begin a command <code>--all --sync</code>' '<dt>Passed over</dt><dd>1</dd>'
 }
 
+# What the capture says of itself stands above all, and the reasons that it puts in doubt say so.
+signs() {
+    page_of 'D 20 01 21 C 10 01 11'
+    has 'swapped wires' '<b>Look at the capture first:</b>' \
+        "<li>the wires are swapped, at record 1: blocks of a deck on the controller's wire: 1, of a controller on the deck's: 1; swap C and D before anything is judged</li>" \
+        'In doubt: the two wires seem to be swapped. Swap them before any of this is believed.'
+    page_of "$play"
+    lacks 'no sign' 'Look at the capture first' 'In doubt'
+}
+
+# The commanded mode stands beside the shown one, in a row of its own where the deck does not do what it was told.
+commanded() {
+    # The deck acknowledges PLAY in REMOTE, and goes on to show STOP.
+    page_of "$remote $play C +2400 61 20 12 93 D 72 20 20 00 B2 C +17200 61 20 12 93 D 72 20 20 00 B2 +10000 C 61"
+    has 'a commanded mode' '<title>Shown and commanded mode over time: STOP, PLAY</title>' '<span>STOP</span><span>PLAY</span>' \
+        '<path class="state" d=""/><path class="goal" d="M'
+}
+
+# A stretch in the whole width: all is judged, and only what comes in it is shown.
+stretches() {
+    page_of "$(session_of 0 17600)" --from 0.0204 --to 0.0604
+    has 'a stretch' '<dt>Shown from</dt><dd>00:00:00.020</dd>' '<dt>Shown to</dt><dd>00:00:00.060</dd>' \
+        '<dt>Records</dt><dd>44</dd>' '<dt>Exchanges</dt><dd>5</dd>' '<path class="clear" d="M0.00 14h1000.00v2h-1000.00z"/>' \
+        '<path class="state" d="M120.00 2h880.00v14h-880.00z"/>' '<code>--all --from 0.020400 --to 0.060400</code>' \
+        '<span>2 commands</span>'
+    lacks 'a stretch' 'STATUS SENSE &rarr;'
+    page_of "$play D 10 $play +20000 $play D 10" --from 0.01
+    has 'breaks of a stretch' '<h1 class="bad">1 break</h1>' 'Record <a href="#r20">20</a>'
+}
+
 # Captures of which there is little to tell.
 little() {
     page_of ''
-    judge "$awk: no record" [ "$status" = 0 ]
+    judge "no record" [ "$status" = 0 ]
     has 'no record' '<h1>0 breaks</h1>' '<p class="lead">The capture has no records.</p>' '<dt>Records</dt><dd>0</dd>'
     lacks 'no record' '<figure>' 'Begins'
     page_of 'C 61 20'
@@ -217,36 +244,14 @@ long_lists() {
 refusals() {
     printf 'time_us,wire,byte\n400,C,61\n800,X,20\n' > "$work/capture.csv"
     page
-    expect "$awk: a bad row" 3 '' "$("$program" check "$work/capture.csv" 2>&1)"
+    expect "a bad row" 3 '' "$("$program" check "$work/capture.csv" 2>&1)"
     rm "$work/capture.csv" "$work/captures/$name"
     page
-    expect "$awk: no such file" 4 '' 'cannot open
+    expect "no such file" 4 '' 'cannot open
 night.csv: No such file or directory'
     page_of "$play" --rate 50
-    judge "$awk: words that the program refuses" [ "$status" = 2 ]
-    judge "$awk: and no page" [ ! -s "$work/out" ]
-}
-
-# An explanation that is not whole, or not the one whose totals are known.
-refused_explanations() {
-    local totals='breaks 0: records 6, exchanges 1, passed over 0, open 0'
-    capture_of "$play"
-    "$program" explain --all --bytes "$work/capture.csv" > "$work/in"
-    echo "$totals" > "$work/why"
-    page_awk "$totals" < "$work/in"
-    judge "$awk: the whole of it" [ "$status" = 0 ]
-    head -n 1 "$work/in" > "$work/cut"
-    page_awk "$totals" < "$work/cut"
-    judge "$awk: no totals" is_refused "ninecheck page: line 1: no totals: the capture can't be read, or the text was cut short"
-    page_awk "${totals/6/7}" < "$work/in"
-    judge "$awk: other totals" is_refused "ninecheck page: line 2: the capture changed while it was read: $work/capture.csv"
-}
-
-page_awk() {
-    # shellcheck disable=SC2046
-    $awk -v capture="$work/capture.csv" -v why="$work/why" -v totals="$1" -v first_us=400 -v last_us=2400 -v file=night.csv -v rate=25 \
-        $(files_of page) > "$work/out" 2> "$work/err"
-    status=$?
+    judge "words that the program refuses" [ "$status" = 2 ]
+    judge "and no page" [ ! -s "$work/out" ]
 }
 
 # parse: the page has no error, for either parser, and refers to nothing but itself.
@@ -255,38 +260,32 @@ parse() {
     judge "$1: tidy finds nothing" [ ! -s "$work/err" ]
     judge "$1: html5lib finds nothing" /usr/bin/python3 -B -c 'import html5lib, sys
 html5lib.HTMLParser(strict=True).parse(open(sys.argv[1], "rb"))' "$work/out"
-    awk=any lacks "$1" '<script' 'http' 'src=' '@import' 'url(' ' on'load
+    lacks "$1" '<script' 'http' 'src=' '@import' 'url(' ' on'load
     grep -o 'href="#[^"]*"' "$work/out" | cut -d '"' -f 2 | sort -u | tr -d '#' > "$work/named"
     grep -o ' id="[^"]*"' "$work/out" | cut -d '"' -f 2 | sort > "$work/there"
     judge "$1: each link leads somewhere" [ -z "$(comm -23 "$work/named" <(sort -u "$work/there"))" ]
     judge "$1: no id stands twice" [ -z "$(uniq -d "$work/there")" ]
 }
 
-for awk in mawk 'gawk --posix' 'busybox awk'; do
-    clean
-    late
-    restored
-    contradiction
-    words
-    little
-    limits
-    refusals
-    refused_explanations
-done
-awk=mawk
+clean
+late
+restored
+contradiction
+words
+signs
+commanded
+stretches
+little
+limits
+refusals
 long_lists
 
-# Each awk writes the same, and all of it is HTML.
+# All of it is HTML.
 for capture_name in late-replies several-breaks session keeps-playing hands; do
-    for awk in mawk 'gawk --posix' 'busybox awk'; do
-        cp "examples/views/$capture_name.csv" "$work/capture.csv"
-        page
-        cp "$work/out" "$work/by ${awk%% *}"
-        judge "$awk: $capture_name: it writes what mawk does" cmp "$work/by ${awk%% *}" "$work/by mawk"
-    done
+    cp "examples/views/$capture_name.csv" "$work/capture.csv"
+    page
     parse "$capture_name"
 done
-awk=mawk
 page_of "$(repeated 1003 'C 20 01 21 +9000 D 10 01 11')"
 parse 'a thousand breaks'
 page_of ''

@@ -1,14 +1,13 @@
 #!/usr/bin/env bash
-# Makes pages, under each awk, and reads their breaks as a person does: the sentence of each reason, the lines of `why`, the list of
-# a contradiction, the table and what is advised, of small captures written by hand; the pictures, which are those of `picture`; and
-# what a long list leaves out. The last line is 'N passed, M failed'.
+# Makes pages, and reads their breaks as a person does: the sentence of each reason, the lines of `why`, the list of a contradiction,
+# the table and what is advised, of small captures written by hand; the pictures, which are those of `picture`; and what a long list
+# leaves out. The last line is 'N passed, M failed'.
 set -u
 cd "$(dirname "$0")/.." || exit 1
 . tests/lib/tools.sh
-need_tools mawk gawk busybox tidy
+need_tools mawk tidy
 . tests/lib/judge.sh
 . tests/lib/program.sh
-. tests/lib/awk.sh
 . tests/lib/blocks.sh
 
 # Commands with their replies: one that comes 9,400 microseconds after PLAY, STOP, a sense of OUT that is refused, CURRENT TIME
@@ -20,33 +19,20 @@ polled_time='C 61 0C 01 6E D 74 04 00 00 00 01 79'
 in_249_on='C 60 10 70 D 74 10 24 09 00 10 C1'
 in_at_11='C 60 10 70 D 74 10 00 00 00 11 95'
 
-page=$(files_of page)
-
-# ask CAPTURE [WORDS...]: has the program say what a page is made of: $work/explained and $work/why.
-ask() {
+# page_of CAPTURE [WORDS...]: the page of that with these words, in $work/page, and its section of the breaks in $work/out; and what
+# `why` says of it, in $work/why.
+page_of() {
     capture=$1
-    "$program" explain --all --bytes "$@" > "$work/explained"
-    "$program" why --all "$@" > "$work/why"
-}
-
-# make_page [NAME=VALUE]...: the page of that, with these variables beside those that each page has; it is left in $work/page, and
-# its section of the breaks in $work/out.
-make_page() {
-    local setting settings=()
-    for setting in "$@"; do settings+=(-v "$setting"); done
-    # shellcheck disable=SC2086
-    $awk -v capture="$capture" -v why="$work/why" -v totals="$(tail -n 1 "$work/explained")" -v file=night.csv \
-        -v file_word=night.csv -v rate=25 -v hands=no -v first_us="$(sed -n '2s/,.*//p' "$capture")" \
-        -v last_us="$(tail -n 1 "$capture" | sed 's/,.*//')" "${settings[@]}" $page < "$work/explained" > "$work/page" 2> "$work/err"
+    (cd "$(dirname "$capture")" && "$program" page "${@:2}" "$(basename "$capture")") > "$work/page" 2> "$work/err"
     status=$?
+    "$program" why --all "${@:2}" "$capture" > "$work/why"
     sed -n '/^<section id="breaks">$/,/^<\/section>$/p' "$work/page" > "$work/out"
 }
 
-# section RECORDS [NAME=VALUE]...: the same of a capture of these records, in which $names stand for what they are set to.
+# section RECORDS [WORDS...]: the same of a capture of these records, in which $names stand for what they are set to.
 section() {
     capture_of "$(eval "echo \"$1\"")"
-    ask "$work/capture.csv"
-    make_page "${@:2}"
+    page_of "$work/capture.csv" "${@:2}"
 }
 
 # plain: what a reader sees of lines of the page.
@@ -67,7 +53,7 @@ paragraphs() { awk '/^<details/ { inside++ } !inside && /^<p/; /^<\/details>/ { 
 same() {
     printf '%s\n' "$2" > "$work/made"
     printf '%s\n' "$3" > "$work/want"
-    judge "$awk: $1" cmp "$work/made" "$work/want"
+    judge "$1" cmp "$work/made" "$work/want"
 }
 
 show() {
@@ -111,12 +97,12 @@ contradictions() {
     same 'a contradiction' "$(summaries)" \
         'r28: 00:01:00.011 record 28 M1 no run remains 3 replies contradict one another, over 1 min 0.0 s.'
     same 'what is said of it' "$(sed -n '/^<details/,$p' "$work/out" | grep -m 1 '^<p>' | plain)" \
-        'No deck can have given these replies together. Without any one of them, a deck can have given the others.'
+        'No deck can have given these replies together. Without any one of them, a deck can have given the others. What they disagree on is IN, and its bytes are marked.'
     same 'the list' "$(first_of ol | sed 's/<br>/ | /; s/<p / | &/' | plain | sed '/^$/d')" \
         '00:00:00.000 records 1 to 8 STATUS SENSE → STATUS says local no | 61 20 01 82 → 71 20 00 91 | 3.2 ms later, nothing between
 00:00:00.003 records 9 to 18 IN DATA PRESET 10:00:00:00 → ACK | 44 14 00 00 00 10 68 → 10 01 11 | 1 min 0.0 s later, nothing between
 00:01:00.007 records 19 to 28 IN DATA SENSE → IN DATA 11:00:00:00 | 60 10 70 → 74 10 00 00 00 11 95'
-    judge "$awk: what was known" grep -qxF '<p>Known before the last reply: in 10:00:00:00, local no.</p>' "$work/out"
+    judge "what was known" grep -qxF '<p>Known before the last reply: in 10:00:00:00, local no.</p>' "$work/out"
     same 'the lines of why of a contradiction' "$(first_of pre | plain)" "$(sed '$d' "$work/why")"
 
     # A status that shows no mode, and two of which the second says that IN is clear.
@@ -125,16 +111,22 @@ contradictions() {
     section 'C 61 20 31 B2 D 71 20 01 92 C 61 20 31 B2 D 71 20 00 91'
     same 'two replies' "$(summaries)" \
         'r16: 00:00:00.006 record 16 M1 no run remains 2 replies contradict one another, over 6.0 ms.'
-    judge "$awk: what is said of two" grep -qF 'It can have given either of them without the other.' "$work/out"
+    judge "what is said of two" grep -qF 'It can have given either of them without the other.' "$work/out"
+
+    # What they disagree on is marked, and a command between that touches it is named.
+    section "$remote C 40 10 50 $ack $shift C 61 20 31 B2 D 71 20 00 91"
+    judge 'what is disputed' grep -qF 'What they disagree on is <b class="bad">IN</b>, and its bytes are marked.' "$work/out"
+    judge 'the byte that is disputed' grep -qF '61 20 31 B2 &#8594; 71 20 <b class="bad">00</b> 91' "$work/out"
+    judge 'the command between' grep -qF '6 records between; what touches it between: IN SHIFT + at 00:00:00.' "$work/out"
 
     section "$remote $preset $(repeated 500 "$polled_time") $in_at_11"
-    judge "$awk: replies far apart" grep -qF '<p class="between">2.2 s later, 5,500 records between</p>' "$work/out"
+    judge "replies far apart" grep -qF '<p class="between">2.2 s later, 5,500 records between; no command between touches it</p>' "$work/out"
     # 250 shifts of IN, and a sense that misses one of them: each is needed.
     section "$remote $preset $(repeated 250 "$shift") $in_249_on"
     same 'very many replies' "$(summaries)" \
         'r1528: 00:00:00.611 record 1,528 M1 no run remains 253 replies contradict one another, over 610.8 ms.'
-    judge "$awk: the list of very many replies" [ "$(grep -c '^<li>' "$work/out")" = 201 ]
-    judge "$awk: those that are not listed" grep -qF '<p class="between">52 more replies are not listed</p></li>' "$work/out"
+    judge "the list of very many replies" [ "$(grep -c '^<li>' "$work/out")" = 201 ]
+    judge "those that are not listed" grep -qF '<p class="between">52 more replies are not listed</p></li>' "$work/out"
     same 'the lines of why of very many replies' "$(first_of pre | plain)" \
         "$(sed -n '1,200p' "$work/why"; echo '... 52 more replies'; sed -n '253,255p' "$work/why")"
 }
@@ -175,11 +167,10 @@ L1 late reply | 1 | The reply began more than 9,287 µs after the command. | At 
 names() {
     printf '%s\n' '[names]' '"40 2D" = "FULL EE ON"' > "$work/deck.toml"
     capture_of "C 40 2D 6D $ack D 10"
-    ask "$work/capture.csv" --deck "$work/deck.toml"
-    make_page
+    page_of "$work/capture.csv" --deck "$work/deck.toml"
     same 'a name of a sheet' "$(summaries)" \
         'r7: 00:00:00.002 record 7 P1 reply without a command After the reply to FULL EE ON the deck sent 10, 400 µs later.'
-    judge "$awk: text with marks" grep -qF 'FULL EE ON 40 2D 6D -&gt; 10 01 11' "$work/out"
+    judge "text with marks" grep -qF 'FULL EE ON 40 2D 6D -&gt; 10 01 11' "$work/out"
 }
 
 # without_looks: the boxes, lines and texts of a picture, but for how they look.
@@ -194,21 +185,23 @@ picture_at() {
 }
 
 # has_pictures NAME [MOST]: each break of the section, or so many of them, has the picture that `picture` makes of it. Of two
-# breaks at one record that makes the first alone, and of replies that contradict one another it makes another one.
+# breaks at one record that makes the first alone, and of replies that contradict one another it makes another one. What is joined
+# with the break before has none.
 has_pictures() {
     local record pictures=0
     for record in $("$program" check --all "$capture" | sed -n 's/^no at record \([0-9]*\): \(..\) .*/\1 \2/p' |
         sort -u -n -s -k 1,1 | head -n "${2-100}" | sed -n '/M1/!s/ .*//p'); do
+        grep -q "^<details class=\"break\" id=\"r$record\"" "$work/out" || continue
         pictures=$((pictures + 1))
         # The ground and the two headlines are not on the page.
         "$program" picture --all --at "$record" "$capture" | without_looks | sed 1,3d > "$work/want"
         picture_at "$record" | without_looks > "$work/made"
         if [ ! -s "$work/made" ] || ! cmp -s "$work/made" "$work/want"; then
-            fail "$awk: $1: the picture of record $record"
+            fail "$1: the picture of record $record"
             return
         fi
     done
-    judge "$awk: $1: its $pictures pictures" [ "$pictures" -gt 0 ]
+    judge "$1: its $pictures pictures" [ "$pictures" -gt 0 ]
 }
 
 # One break after another: pictures that overlap, two breaks at one record, late replies before a break, and parts that are short.
@@ -228,19 +221,16 @@ END
     section 'C 61 20 01 82 D 71 C 74 $play'
     same 'two breaks at one record' "$(summaries | cut -d ' ' -f 1-5)" 'r6: 00:00:00.002 record 6 P4
 r6-2: 00:00:00.002 record 6 B1'
-    judge "$awk: the picture of the second begins with its part" [ "$(grep -c '<title>record 5, ' "$work/out")" = 1 ]
+    judge "the picture of the second begins with its part" [ "$(grep -c '<title>record 5, ' "$work/out")" = 1 ]
     section '$late'
-    judge "$awk: the first break is open" grep -qF '<details class="break" id="r4" open>' "$work/out"
-    ask examples/views/several-breaks.csv
-    make_page
+    judge "the first break is open" grep -qF '<details class="break" id="r4" open>' "$work/out"
+    page_of examples/views/several-breaks.csv
     has_pictures several-breaks.csv
-    ask examples/views/late-replies.csv
-    make_page
+    page_of examples/views/late-replies.csv
     has_pictures late-replies.csv
     # What --sync passes over is not drawn.
     capture_of "D 01 11 C 61 20 D 10 $play D 10"
-    ask "$work/capture.csv" --sync
-    make_page sync=1
+    page_of "$work/capture.csv" --sync
     same '--sync' "$(sed -n 's/.*<title>\(record [0-9]*\), .*/\1/p' "$work/out" | sort -u -V | head -n 1)" 'record 3'
 }
 
@@ -253,69 +243,53 @@ drawn() {
         mawk -F, -v OFS=, 'FNR == 1 { if (NR == 1) print; before += last + 3000; next }
             { last = $1; $1 = sprintf("%.0f", before + $1); print }' "$work"/drawn/*-damaged.csv > "$work/drawn.csv"
     fi
-    ask "$work/drawn.csv"
-    make_page
+    page_of "$work/drawn.csv"
     has_pictures 'drawn captures'
+}
+
+# Equal breaks in a row, between which no exchange comes, are one entry.
+in_a_row() {
+    section 'C 20 01 21 +12000 20 01 21 +12000 20 01 21 +12000 20 00 20 +12000 20 01 21 $ack C 20 01 21 +12000 61'
+    same 'equal breaks in a row' "$(summaries)" 'r4: 00:00:00.013 record 4 L2 no reply PLAY got no reply; the next command came 12,400 µs after it. 3 breaks to record 10 at 00:00:00.040.
+r13: 00:00:00.053 record 13 L2 no reply STOP got no reply; the next command came 12,400 µs after it.
+r22: 00:00:00.068 record 22 L2 no reply PLAY got no reply; the next command came 12,400 µs after it.'
+    judge 'they count each' grep -qF '<td class="count">5</td>' "$work/out"
 }
 
 # What a long list leaves out.
 limits() {
     section "$(repeated 120 "$late")"
-    judge "$awk: 120 breaks" [ "$(summaries | wc -l) $(grep -c '^<svg' "$work/out")" = '120 100' ]
+    judge "120 breaks" [ "$(summaries | wc -l) $(grep -c '^<svg' "$work/out")" = '120 100' ]
     has_pictures '120 breaks' 10
     same 'the pictures that are not there' "$(paragraphs | tail -n 1)" \
-        'The first 100 breaks have a picture. ninecheck picture --at RECORD night.csv draws any other.'
-    section "$(repeated 1003 "$late")" 'words=--rate 29.97df' "file=the deck's <night>.csv" "file_word='the deck'\\\\''s <night>.csv'"
-    judge "$awk: 1,003 breaks" [ "$(summaries | wc -l) $(grep -c '^<pre' "$work/out")" = '1000 1000' ]
-    judge "$awk: 1,003 breaks, the pictures" [ "$(grep -c '^<svg' "$work/out")" = 100 ]
-    judge "$awk: the table counts them all" grep -qF '<td class="count">1,003</td>' "$work/out"
-    judge "$awk: and their commands" grep -qF 'Command: PLAY 1,003.' "$work/out"
+        'The first 100 breaks have a picture. ninecheck picture --at RECORD capture.csv draws any other.'
+    capture_of "$(repeated 1003 "$late")"
+    mv "$work/capture.csv" "$work/the deck's <night>.csv"
+    page_of "$work/the deck's <night>.csv" --rate 29.97df
+    judge "1,003 breaks" [ "$(summaries | wc -l) $(grep -c '^<pre' "$work/out")" = '1000 1000' ]
+    judge "1,003 breaks, the pictures" [ "$(grep -c '^<svg' "$work/out")" = 100 ]
+    judge "the table counts them all" grep -qF '<td class="count">1,003</td>' "$work/out"
+    judge "and their commands" grep -qF 'Command: PLAY 1,003.' "$work/out"
     same 'the breaks that are not listed' "$(paragraphs | tail -n 2 | head -n 1)" \
         "3 more breaks are not listed. ninecheck why --all --rate 29.97df 'the deck'\''s <night>.csv' lists them."
 }
 
-# Lines of why that are not those of the explanation.
-refusals() {
-    local not_those='the lines of why are not those of this break:'
-    section "$play D 10 $play D 10"
-    cp "$work/why" "$work/whole"
-    sed '$d' "$work/whole" > "$work/why"
-    make_page
-    judge "$awk: why without its totals" is_refused "ninecheck page: line 5: the lines of why are not those of these breaks: $work/why"
-    head -n 3 "$work/whole" > "$work/why"
-    make_page
-    judge "$awk: why with a break less" is_refused "ninecheck page: line 4: $not_those no at record 14: P1 reply without a command"
-    sed 1d "$work/whole" | sed 's/record 7: P1/record 8: P1/' > "$work/why"
-    make_page
-    judge "$awk: why of another capture" is_refused "ninecheck page: line 2: $not_those no at record 7: P1 reply without a command"
-    make_page why=
-    judge "$awk: no why" is_refused 'ninecheck page: line 2: no lines of why beside the explanation'
-}
-
-for awk in mawk 'gawk --posix' 'busybox awk'; do
-    reasons
-    contradictions
-    advice
-    table
-    names
-    neighbours
-    drawn
-    limits
-    refusals
-done
+reasons
+contradictions
+advice
+table
+names
+neighbours
+drawn
+in_a_row
+limits
 
 # 51 contradictions of 253 replies each: once the page has 10,000 of them, it has fewer of each.
-awk=mawk
 section "$(repeated 51 "$remote $preset $(repeated 250 "$shift") $in_249_on")"
 judge 'contradictions with very many replies' [ "$(grep -c '^<li>' "$work/out")" = $((50 * 201 + 11)) ]
 
-# The page is HTML without an error, and each awk writes the same.
-ask examples/views/late-replies.csv
-for awk in mawk 'gawk --posix' 'busybox awk'; do
-    make_page
-    cp "$work/page" "$work/by ${awk%% *}"
-    judge "$awk: it writes what mawk does" cmp "$work/by ${awk%% *}" "$work/by mawk"
-done
+# The page is HTML without an error.
+page_of examples/views/late-replies.csv
 tidy -errors -quiet "$work/page" > "$work/made" 2>&1
 : > "$work/want"
 judge 'tidy finds nothing' cmp "$work/made" "$work/want"

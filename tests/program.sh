@@ -270,7 +270,7 @@ run --help < /dev/null
 sed -n '/^Commands:/,/^$/s/^  \([a-z]*\( [a-z][a-z]*\)*\)  .*/\1/p' "$work/out" | tr '\n' ',' > "$work/text"
 judged=$(cat "$work/text")
 echo "$judged" > "$work/out"
-expect 'the subcommands that the help lists' 2 'check,explain,run,why,digest,delays,motion,json,json check,json explain,json run,json why,clock,info,try,picture,help,' ''
+expect 'the subcommands that the help lists' 2 'check,explain,run,why,digest,delays,motion,json,json check,json explain,json run,json why,clock,info,try,picture,page,help,' ''
 run "$(printf '\377')" < examples/play.csv
 expect 'a word that is not UTF-8' 2 '' 'error: a word of the command line is not UTF-8
 pass a file with such a name on standard input: ninecheck check < FILE'

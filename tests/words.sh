@@ -61,12 +61,12 @@ refused_words() {
         printf '%b\n' "$want" > "$work/want"
         judge "$shell, $awk: $words" is_refused_so "$want_status"
     done <<'END'
-page --rate 24 examples/wrong-header.csv|3|@check examples/wrong-header.csv
+touches --rate 24 examples/wrong-header.csv|3|@check examples/wrong-header.csv
 touches examples/bad-byte.csv|3|@check examples/bad-byte.csv
 touches absent.csv|4|@check absent.csv
-page examples|4|@check examples
-page --deck absent.toml examples/play.csv|4|@check --deck absent.toml examples/play.csv
-page examples/play.csv examples/play.csv|2|error: unexpected argument 'examples/play.csv' found\n\nUsage: ninecheck page [OPTIONS] [FILE]\n\nFor more information, try '--help'.
+touches examples|4|@check examples
+touches --deck absent.toml examples/play.csv|4|@check --deck absent.toml examples/play.csv
+touches examples/play.csv examples/play.csv|2|error: unexpected argument 'examples/play.csv' found\n\nUsage: ninecheck touches [OPTIONS] [FILE]\n\nFor more information, try '--help'.
 convert hex|2|error: unrecognized export 'hex': sigrok, saleae and log are known\n\nUsage: ninecheck convert <sigrok|saleae|log> [OPTIONS] [FILE]\n\nFor more information, try '--help'.
 convert sigrok --samplerate 1 a b|2|error: unexpected argument 'b' found\n\nUsage: ninecheck convert sigrok --samplerate <N> [OPTIONS] [FILE]\n\nFor more information, try '--help'.
 END
@@ -86,14 +86,10 @@ is_refused_so() {
 
 # The program refuses an option that it does not know, and the usage is that of the word that was asked for.
 unknown_options() {
-    local asked usage
-    for asked in touches page; do
-        usage="Usage: ninecheck $asked [OPTIONS] [FILE]"
-        ask $asked --foo examples/play.csv
-        judge "$shell, $awk: an unknown option of $asked" [ "$status" = 2 -a ! -s "$work/out" ]
-        judge "$shell, $awk: an unknown option of $asked is named" grep -q -e "'--foo'" "$work/err"
-        judge "$shell, $awk: the usage of $asked" grep -qxF "$usage" "$work/err"
-    done
+    ask touches --foo examples/play.csv
+    judge "$shell, $awk: an unknown option" [ "$status" = 2 -a ! -s "$work/out" ]
+    judge "$shell, $awk: an unknown option is named" grep -q -e "'--foo'" "$work/err"
+    judge "$shell, $awk: the usage" grep -qxF 'Usage: ninecheck touches [OPTIONS] [FILE]' "$work/err"
 }
 
 # Names that a shell or awk might take for something else.

@@ -30,17 +30,3 @@ function time_of(number, wires,    part) {
     sub(/^0+/, "", part[1])
     return part[1]
 }
-
-# Whether a record may begin a command, by its wire and that of the record before it: it is the controller's, and comes after one of
-# the deck, or after a pause that is longer than any inside a block. The first record never may.
-function may_begin(on, on_before, pause) {
-    return on == "C" && (on_before == "D" || (on_before == "C" && pause > 10287))
-}
-
-# The value of two hexadecimal digits. There are few of them, so what was found is kept.
-function value_of(digits) {
-    if (!(digits in values)) values[digits] = digit_value(substr(digits, 1, 1)) * 16 + digit_value(substr(digits, 2, 1))
-    return values[digits]
-}
-
-function digit_value(digit) { return index("0123456789ABCDEF", toupper(digit)) - 1 }

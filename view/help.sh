@@ -7,7 +7,6 @@ For the bench:
   convert  Make a capture of what sigrok, Saleae Logic or a serial logger exports
   split    Cut a long capture into parts
   touches  Where somebody must have touched the deck's front panel
-  page     The whole session as one page (HTML), to look at and to send on
 END
 }
 
@@ -41,7 +40,6 @@ show_help() {
 # without_options: what the program says of its options, without those that the word does not need.
 without_options() {
     case $word in
-        page) grep -v '^ *--bytes \|^ *--all \|^ *--line-buffered ' ;;
         touches) grep -v '^ *--hands ' ;;
     esac
 }
@@ -52,7 +50,6 @@ word_about() {
         convert*) echo 'Makes a capture of an export of both wires, and writes it to standard output' ;;
         split) echo 'Cuts a capture into parts that begin between exchanges: NAME-001.csv, NAME-002.csv and so on' ;;
         touches) echo "Tells where somebody must have touched the deck's front panel, as seldom as possible, and what changed" ;;
-        page) echo 'Makes a page of the whole capture: HTML that needs no network, to look at and to send on' ;;
     esac
 }
 
@@ -112,7 +109,7 @@ END
 # top_help WORDS...: what the program says of itself, with the other words below its own. The status is the program's.
 top_help() {
     case ${2-} in
-        convert | split | touches | page | why)
+        convert | split | touches | why)
             [ "$1" != help ] || exec "$self" "$2" --help ;;
     esac
     (run_program "$@")

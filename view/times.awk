@@ -1,17 +1,7 @@
 # Times as text, by their digits: what awk prints for a number's point depends on the country.
 
-# Microseconds as seconds, and as milliseconds.
+# Microseconds as seconds.
 function seconds(us) { return with_point(us, 6) }
-
-function milliseconds(us) { return with_point(us, 3) " ms" }
-
-# Microseconds as a clock, whose hours go on past 23.
-function clock(us,    digits, at, whole) {
-    digits = seconds(us)
-    at = index(digits, ".")
-    whole = substr(digits, 1, at - 1) + 0
-    return sprintf("%02d:%02d:%02d", int(whole / 3600), int(whole / 60) % 60, whole % 60) substr(digits, at)
-}
 
 # A number rounded to a whole one, with a point before so many of its last digits.
 function with_point(n, places,    sign, digits) {

@@ -8,7 +8,6 @@ word=$1
 shift
 takes_files='' takes='' passes_value='--rate --deck'
 case $word in
-    page) asks=explain flags='--all --bytes --line-buffered' passes='--hands --sync' ;;
     touches) asks=run flags='--hands --sync' passes='--all --bytes --line-buffered' ;;
 esac
 . "$share/view/arguments.sh"

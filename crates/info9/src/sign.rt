@@ -69,8 +69,14 @@ pub enum Seeming {
 impl Sign {
     /// Puts its line, with a line feed. An error comes where the line has to grow and is refused.
     pub fn put(&self, line: &mut Vec<u8>) -> Result<(), AllocError> {
-        let (name, meaning) = self.what.words();
         put_text(line, "look at: ")?;
+        self.put_told(line)?;
+        put_text(line, "\n")
+    }
+
+    /// Puts what it is, where it is, what was seen and what that means. An error comes where the line has to grow and is refused.
+    pub fn put_told(&self, line: &mut Vec<u8>) -> Result<(), AllocError> {
+        let (name, meaning) = self.what.words();
         put_text(line, name)?;
         put_count(line, ", at record ", u64::from(self.at.record))?;
         put_text(line, ": ")?;
@@ -80,7 +86,7 @@ impl Sign {
         if let Seeming::WrongRate { fits, .. } = self.what {
             put_fitting(line, fits)?;
         }
-        put_text(line, "\n")
+        Ok(())
     }
 }
 

@@ -1,4 +1,6 @@
 //! Texts that facts and signs share.
+ghost use Rattle.std.specs.Prelude.{◌≡◌};
+ghost use Rattle.info9.specs.Words.{rate_word};
 
 use crate::rates::{Fitting, RateSeen};
 use report9::{TextBuffer, put_count, put_text};
@@ -32,7 +34,9 @@ pub(crate) fn put_tenths(line: &mut Vec<u8>, thousandths: u64) -> Result<(), All
 }
 
 /// The word of a rate on the command line.
-pub(crate) fn rate_word(rate: Rate) -> &'static str {
+pub fn rate_word(rate: Rate) -> &'static str
+    ensures { result.now ≡ rate_word rate }
+{
     match rate {
         Rate::Fps24 => "24",
         Rate::Fps25 => "25",

@@ -2,7 +2,7 @@
 use Rattle.std.proofs.Common.{arith, ℕ, List, [], ◌∷◌, ◌≢◌}
 use Rattle.std.specs.List.{All}
 use Rattle.std.proofs.lemmas.List.Elements.{All-append}
-use Rattle.picture9.specs.Svg.{escape_of, escaped, IsEscaped}
+use Rattle.picture9.specs.Markup.{escape_of, escaped, IsEscaped}
 
 byte_begins_none : (b : ℕ) → All (λ x. x ≢ 60) (escape_of b)
 byte_begins_none b = grind arith

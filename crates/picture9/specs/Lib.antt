@@ -1,1 +1,1 @@
-pub mod Svg
+pub mod Markup

@@ -3,6 +3,7 @@ ghost use Rattle.std.specs.Prelude.{◌≤◌};
 
 use crate::layout::Layout;
 use crate::look::Look;
+use crate::markup::{Done, Markup};
 use crate::names::put_block_name;
 use crate::numbers::{milliseconds, rounded, text_width, width_of};
 use crate::shapes::{
@@ -10,7 +11,6 @@ use crate::shapes::{
     draw_middle, draw_slashes, draw_span, draw_text, end_text,
 };
 use crate::spot::{DRAWN_US, Spot};
-use crate::svg::{Done, Svg};
 use crate::text_rows::{APART, TextRows, WIRES_LEFT};
 use block9::BYTE_TIME_US;
 use capture9::Wire;
@@ -35,7 +35,7 @@ fn top_of(wire: Wire) -> u64
 }
 
 /// Draws the records that were chosen, on their wires, and the axis with their times.
-pub(crate) fn draw_around(svg: &mut Svg, layout: &Layout) -> Done {
+pub(crate) fn draw_around(svg: &mut Markup, layout: &Layout) -> Done {
     draw_wire(svg, layout, Wire::Controller, "C", "controller")?;
     draw_wire(svg, layout, Wire::Deck, "D", "deck")?;
     draw_across(svg, layout, AXIS, Look::Line)?;
@@ -54,7 +54,7 @@ pub(crate) fn draw_around(svg: &mut Svg, layout: &Layout) -> Done {
 }
 
 /// Draws a wire, with its letter and whose it is.
-fn draw_wire(svg: &mut Svg, layout: &Layout, wire: Wire, letter: &str, whose: &str) -> Done {
+fn draw_wire(svg: &mut Markup, layout: &Layout, wire: Wire, letter: &str, whose: &str) -> Done {
     let top = top_of(wire);
     draw_text(svg, (MARGIN, top + 16), Look::WireLetter, letter.as_bytes())?;
     draw_text(svg, (MARGIN, top + 30), Look::Small, whose.as_bytes())?;
@@ -62,13 +62,13 @@ fn draw_wire(svg: &mut Svg, layout: &Layout, wire: Wire, letter: &str, whose: &s
 }
 
 /// Draws a line over the width of the picture.
-fn draw_across(svg: &mut Svg, layout: &Layout, y: u64, look: Look) -> Done {
+fn draw_across(svg: &mut Markup, layout: &Layout, y: u64, look: Look) -> Done {
     let right = layout.wide.saturating_sub(MARGIN);
     draw_line(svg, (WIRES_LEFT, y), (right, y), look)
 }
 
 /// Draws the silences that are cut, but for the one that is measured: whether there is one.
-fn draw_cuts(svg: &mut Svg, layout: &Layout) -> Result<bool, AllocError> {
+fn draw_cuts(svg: &mut Markup, layout: &Layout) -> Result<bool, AllocError> {
     let is_measured = layout.measured.is_some();
     let text_y = if is_measured { 216 } else { 190 };
     let mut rows = TextRows::new(layout.wide, 1);
@@ -86,7 +86,13 @@ fn draw_cuts(svg: &mut Svg, layout: &Layout) -> Result<bool, AllocError> {
 }
 
 /// Draws a silence that is cut, with its length.
-fn draw_cut(svg: &mut Svg, rows: &mut TextRows, before: &Spot, spot: &Spot, text_y: u64) -> Done {
+fn draw_cut(
+    svg: &mut Markup,
+    rows: &mut TextRows,
+    before: &Spot,
+    spot: &Spot,
+    text_y: u64,
+) -> Done {
     let about = before.end().saturating_add(spot.x) / 2;
     draw_slashes(svg, about, AXIS)?;
     draw_slashes(svg, about, top_of(Wire::Controller) + BOX_TALL)?;
@@ -99,7 +105,7 @@ fn draw_cut(svg: &mut Svg, rows: &mut TextRows, before: &Spot, spot: &Spot, text
 }
 
 /// Draws what the time between the last record and the one that breaks is, over the limit, where it is measured.
-fn draw_measure(svg: &mut Svg, layout: &Layout) -> Done {
+fn draw_measure(svg: &mut Markup, layout: &Layout) -> Done {
     let Some((before, limit_us)) = layout.measured else {
         return Ok(());
     };
@@ -124,7 +130,7 @@ fn draw_measure(svg: &mut Svg, layout: &Layout) -> Done {
 }
 
 /// Draws the boxes of the records, the one that breaks as the last, with an arrow.
-fn draw_bytes(svg: &mut Svg, layout: &Layout) -> Done {
+fn draw_bytes(svg: &mut Markup, layout: &Layout) -> Done {
     for spot in layout.drawn.as_slice() {
         if layout.is_breaking(spot) {
             continue;
@@ -147,14 +153,14 @@ fn draw_bytes(svg: &mut Svg, layout: &Layout) -> Done {
 }
 
 /// Draws the box of a record.
-fn draw_spot(svg: &mut Svg, spot: &Spot, standing: Standing) -> Done {
+fn draw_spot(svg: &mut Markup, spot: &Spot, standing: Standing) -> Done {
     let record = spot.seen.record;
     let at = (spot.x, top_of(record.wire));
     draw_box(svg, at, standing, spot.seen.number, record)
 }
 
 /// Draws the brackets and names of the blocks, above the controller's boxes and below the deck's.
-fn draw_blocks(svg: &mut Svg, layout: &Layout) -> Done {
+fn draw_blocks(svg: &mut Markup, layout: &Layout) -> Done {
     let mut above = TextRows::new(layout.wide, 3);
     let mut below = TextRows::new(layout.wide, 3);
     for spot in layout.drawn.as_slice() {
@@ -170,7 +176,7 @@ fn draw_blocks(svg: &mut Svg, layout: &Layout) -> Done {
 }
 
 /// Draws the bracket and the name of the block that begins with this record.
-fn draw_block(svg: &mut Svg, layout: &Layout, rows: &mut TextRows, begin: &Spot) -> Done {
+fn draw_block(svg: &mut Markup, layout: &Layout, rows: &mut TextRows, begin: &Spot) -> Done {
     let mut end = begin.end();
     for spot in layout.drawn.as_slice() {
         if spot.seen.block == begin.seen.number {
@@ -216,7 +222,7 @@ fn put_own_name(name: &mut Vec<u8>, layout: &Layout, begin: &Spot) -> Done {
 }
 
 /// Draws the stamps of the record that breaks and of the blocks that leave room for theirs.
-fn draw_times(svg: &mut Svg, layout: &Layout) -> Done {
+fn draw_times(svg: &mut Markup, layout: &Layout) -> Done {
     let breaking = &layout.breaking;
     let text = milliseconds(svg.alloc(), breaking.seen.record.time_us)?;
     let middle = TextRows::new(layout.wide, 1)
@@ -238,7 +244,7 @@ fn draw_times(svg: &mut Svg, layout: &Layout) -> Done {
 }
 
 /// Draws a stroke on the axis, and a stamp about a middle below it.
-fn draw_time(svg: &mut Svg, (tick, middle): (u64, u64), look: Look, text: &[u8]) -> Done {
+fn draw_time(svg: &mut Markup, (tick, middle): (u64, u64), look: Look, text: &[u8]) -> Done {
     draw_line(svg, (tick, AXIS - 4), (tick, AXIS + 4), Look::Line)?;
     draw_middle(svg, (middle, AXIS + 18), look, text)
 }

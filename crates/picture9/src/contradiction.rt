@@ -3,11 +3,11 @@
 use crate::exchange_row::ExchangeRow;
 use crate::layout::LEAST_WIDE;
 use crate::look::Look;
+use crate::markup::{Done, Markup};
 use crate::numbers::{PIXEL, milliseconds, put_long_time, text_width};
 use crate::shapes::{
     BOX_TALL, BOX_WIDE, MARGIN, Standing, draw_arrow, draw_box, draw_line, draw_slashes, draw_text,
 };
-use crate::svg::{Done, Svg};
 use deck9::{Knowledge, ModeSet, Profile};
 use report9::{put_count, put_modes, put_text, put_word};
 use std::alloc::{AllocError, Global};
@@ -102,19 +102,30 @@ pub(crate) fn known_line(
 ) -> Result<Vec<u8>, AllocError> {
     let mut text = Vec::new(alloc);
     put_text(&mut text, "known of the deck before the last reply: ")?;
+    put_known_before(&mut text, profile, known, shown)?;
+    Ok(text)
+}
+
+/// Puts what is known of a deck: what it could show, where that is not every mode, and each field that is known.
+pub fn put_known_before(
+    text: &mut Vec<u8>,
+    profile: &Profile,
+    known: &Knowledge,
+    shown: ModeSet,
+) -> Done {
     let mut before = "";
     if !shown.is_every() {
-        put_text(&mut text, "shown ")?;
-        put_modes(&mut text, shown)?;
+        put_text(text, "shown ")?;
+        put_modes(text, shown)?;
         before = ", ";
     }
     for field in Field::told(profile.hands) {
-        before = put_known(&mut text, before, profile, known, *field)?;
+        before = put_known(text, before, profile, known, *field)?;
     }
     if before.is_empty() {
-        put_text(&mut text, "nothing")?;
+        put_text(text, "nothing")?;
     }
-    Ok(text)
+    Ok(())
 }
 
 /// Puts a field and its value behind what comes before, where it is known and no mode, and answers what comes before the next.
@@ -137,7 +148,7 @@ fn put_known<'a>(
 /// Draws the rows: the command's bytes side by side, and the reply's, under their names, and below what the reply says. The last record
 /// of the last row is the one that breaks.
 pub(crate) fn draw_rows(
-    svg: &mut Svg,
+    svg: &mut Markup,
     rows: &[ExchangeRow],
     columns: &Columns,
     below: &[u8],
@@ -162,7 +173,7 @@ pub(crate) fn draw_rows(
 }
 
 /// Draws a row.
-fn draw_row(svg: &mut Svg, row: &ExchangeRow, columns: &Columns, y: u64) -> Done {
+fn draw_row(svg: &mut Markup, row: &ExchangeRow, columns: &Columns, y: u64) -> Done {
     let (names_y, time_y) = (y.saturating_add(12), y.saturating_add(34));
     let (numbers_y, says_y) = (y.saturating_add(48), y.saturating_add(58));
     let time = milliseconds(svg.alloc(), row.time_us())?;
@@ -182,7 +193,7 @@ fn draw_row(svg: &mut Svg, row: &ExchangeRow, columns: &Columns, y: u64) -> Done
 }
 
 /// Draws the boxes of a row, with an arrow at the record that breaks.
-fn draw_boxes(svg: &mut Svg, row: &ExchangeRow, columns: &Columns, y: u64) -> Done {
+fn draw_boxes(svg: &mut Markup, row: &ExchangeRow, columns: &Columns, y: u64) -> Done {
     let mut number = row.first;
     for (place, record) in row.records.as_slice().iter().enumerate() {
         let left = row.box_left(columns, place);
@@ -200,7 +211,7 @@ fn draw_boxes(svg: &mut Svg, row: &ExchangeRow, columns: &Columns, y: u64) -> Do
 }
 
 /// Draws the time between two rows, on a line that is cut.
-fn draw_gap(svg: &mut Svg, last: &ExchangeRow, next: &ExchangeRow, y: u64) -> Done {
+fn draw_gap(svg: &mut Markup, last: &ExchangeRow, next: &ExchangeRow, y: u64) -> Done {
     let about = ASKED_LEFT + BOX_WIDE / 2;
     let (above, below) = (y.saturating_add(2), y.saturating_add(ROW_GAP - 6));
     draw_line(svg, (about, above), (about, below), Look::Dashes)?;

@@ -1,7 +1,7 @@
 //! The replies that contradict one another, as rows: what is written of each, and its records.
 
+use crate::markup::Done;
 use crate::names::put_reply_name;
-use crate::svg::Done;
 use block9::Exchange;
 use capture9::{GREATEST_LIMIT, LineByte, Records};
 use deck9::Profile;
@@ -108,7 +108,11 @@ fn read_records<R: Read + Drop>(
 }
 
 /// What the command is called, with its time.
-fn asked_of(alloc: Global, profile: &Profile, exchange: &Exchange) -> Result<Vec<u8>, AllocError> {
+pub fn asked_of(
+    alloc: Global,
+    profile: &Profile,
+    exchange: &Exchange,
+) -> Result<Vec<u8>, AllocError> {
     let mut text = Vec::new(alloc);
     Called::of(profile, exchange).put(&mut text)?;
     put_time(&mut text, profile.rate, exchange.command.time())?;
@@ -116,7 +120,7 @@ fn asked_of(alloc: Global, profile: &Profile, exchange: &Exchange) -> Result<Vec
 }
 
 /// What the reply is called, with its time.
-fn answered_of(
+pub fn answered_of(
     alloc: Global,
     profile: &Profile,
     exchange: &Exchange,
@@ -137,7 +141,11 @@ fn put_time(text: &mut Vec<u8>, rate: Rate, time: Option<TimeCode>) -> Done {
 }
 
 /// What the reply says of the deck by itself: what a report's line of the exchange has behind the bytes and a comma.
-fn says_of(alloc: Global, profile: &Profile, exchange: &Exchange) -> Result<Vec<u8>, AllocError> {
+pub fn says_of(
+    alloc: Global,
+    profile: &Profile,
+    exchange: &Exchange,
+) -> Result<Vec<u8>, AllocError> {
     let mut sent = Vec::new(alloc);
     put_exchange_records(&mut sent, 0, exchange)?;
     put_command_sent(&mut sent, ": ", profile, exchange)?;

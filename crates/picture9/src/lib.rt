@@ -2,16 +2,19 @@
 //! another, a row for each.
 //!
 //! [`write_picture`] judges a capture, finds the break that is drawn, reads the records around it a second time, and writes an SVG.
+//! [`BreakPictures`] draws the first breaks of a capture for a page, of what somebody else judged and reads a second time.
 //! All places are whole numbers of thousandths of a pixel, so that no float is used.
 #![tactic(auto)]
 
 mod around;
 mod blocks;
+mod break_pictures;
 mod choice;
 mod contradiction;
 mod exchange_row;
 mod layout;
 mod look;
+mod markup;
 mod names;
 mod numbers;
 mod picture;
@@ -19,7 +22,11 @@ mod reading;
 mod sentence;
 mod shapes;
 mod spot;
-mod svg;
 mod text_rows;
 
+pub use break_pictures::{BreakPictures, MOST_PICTURES};
+pub use contradiction::put_known_before;
+pub use exchange_row::{answered_of, asked_of, says_of};
+pub use markup::{Done, Markup};
+pub use names::command_name;
 pub use picture::{Drawn, Twice, Wanted, WhyNothing, write_picture};

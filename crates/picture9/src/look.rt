@@ -28,9 +28,26 @@ pub(crate) enum Look {
     WireLetter,
 }
 
+/// What gives a picture its colours.
+#[derive(Clone, Copy, Debug, PartialEq, Eq)]
+pub(crate) enum Style {
+    /// Its own attributes.
+    Own,
+    /// The style of the page in which it stands: its attributes are classes.
+    Page,
+}
+
 impl Look {
-    /// Its attributes.
-    pub(crate) fn attributes(self) -> &'static str {
+    /// Its attributes in this style.
+    pub(crate) fn attributes(self, style: Style) -> &'static str {
+        match style {
+            Style::Own => self.own_attributes(),
+            Style::Page => self.class(),
+        }
+    }
+
+    /// Its own attributes.
+    fn own_attributes(self) -> &'static str {
         match self {
             Look::Arrow => " fill=\"#b00020\" stroke=\"#000000\"",
             Look::Bold => " font-weight=\"bold\"",
@@ -55,6 +72,28 @@ impl Look {
             Look::Time => " fill=\"#333333\"",
             Look::Wire => " stroke=\"#bbbbbb\"",
             Look::WireLetter => " font-size=\"14\" font-weight=\"bold\"",
+        }
+    }
+
+    /// Its class on a page.
+    fn class(self) -> &'static str {
+        match self {
+            Look::Arrow => " class=\"arrow\"",
+            Look::Bold => " class=\"bold\"",
+            Look::Bracket | Look::Dashes | Look::Line => " class=\"line\"",
+            Look::BreakingBox => " class=\"byte now\"",
+            Look::BreakingDigits => " class=\"now\"",
+            Look::Gap => " class=\"gap\"",
+            Look::Headline | Look::Name | Look::PlainDigits => "",
+            Look::LimitLine => " class=\"limit\"",
+            Look::Note | Look::Says => " class=\"note\"",
+            Look::Pale | Look::Time => " class=\"pale\"",
+            Look::PaleBox => " class=\"byte pale\"",
+            Look::Passed | Look::PassedLine => " class=\"passed\"",
+            Look::PlainBox => " class=\"byte\"",
+            Look::Small => " class=\"small\"",
+            Look::Wire => " class=\"wire\"",
+            Look::WireLetter => " class=\"letter\"",
         }
     }
 }

@@ -1,6 +1,6 @@
 //! What a block is called: by its first two bytes.
 
-use crate::svg::Done;
+use crate::markup::Done;
 use arrayvec::ArrayVec;
 use block9::{Block, Command};
 use capture9::Wire;
@@ -26,7 +26,7 @@ pub(crate) fn put_reply_name(text: &mut Vec<u8>, head: u32) -> Done {
 }
 
 /// The name of the command with these two bytes, whatever its data are: it is asked for with data that each command takes.
-fn command_name(first: u8, code: u8) -> Option<&'static str> {
+pub fn command_name(first: u8, code: u8) -> Option<&'static str> {
     let mut bytes = ArrayVec::new();
     for place in 0..first % 16 {
         let _ = bytes.try_push(u8::from(place == 0));

@@ -1,7 +1,7 @@
 //! Numbers as a picture has them.
 ghost use Rattle.std.specs.Prelude.{◌≤◌};
 
-use crate::svg::Done;
+use crate::markup::Done;
 use report9::{TextBuffer, put_count, put_text};
 use std::alloc::{AllocError, Global};
 use view9::put_fixed;

@@ -6,10 +6,10 @@ use crate::contradiction::{Columns, draw_rows, known_line};
 use crate::exchange_row::rows_of;
 use crate::layout::lay_out;
 use crate::look::Look;
+use crate::markup::{Done, Markup};
 use crate::reading::{Asked, read_around};
 use crate::sentence::put_sentence;
 use crate::shapes::{MARGIN, draw_text};
-use crate::svg::{Done, Svg};
 use block9::Reason;
 use deck9::Profile;
 use report9::{Extent, JudgeError, Scope, WhyNo, put_no_line, write_all};
@@ -96,7 +96,7 @@ fn draw<R: Read + Drop>(
     profile: &Profile,
     width: u32,
     choice: &Choice,
-) -> Result<Option<Svg>, JudgeError> {
+) -> Result<Option<Markup>, JudgeError> {
     let Some(why) = &choice.why else {
         return Ok(None);
     };
@@ -119,7 +119,7 @@ fn draw_break<R: Read + Drop>(
     asked: &Asked,
     why: &WhyNo,
     width: u32,
-) -> Result<Option<Svg>, JudgeError> {
+) -> Result<Option<Markup>, JudgeError> {
     let WhyNo::Break {
         reason,
         open,
@@ -136,7 +136,7 @@ fn draw_break<R: Read + Drop>(
     };
     let mut below = Vec::new(alloc);
     put_sentence(&mut below, *reason, open.sum, breaking.byte)?;
-    let mut svg = Svg::new(alloc);
+    let mut svg = Markup::new(alloc);
     let verdict = (asked.at, *reason);
     put_head(&mut svg, (layout.wide, TALL), verdict, below.as_slice())?;
     draw_around(&mut svg, &layout)?;
@@ -150,7 +150,7 @@ fn draw_contradiction<R: Read + Drop>(
     reader: R,
     profile: &Profile,
     why: &WhyNo,
-) -> Result<Option<Svg>, JudgeError> {
+) -> Result<Option<Markup>, JudgeError> {
     let WhyNo::Contradiction {
         at,
         exchanges,
@@ -166,7 +166,7 @@ fn draw_contradiction<R: Read + Drop>(
     let below = known_line(alloc, profile, known, *shown)?;
     let columns = Columns::of(rows.as_slice(), below.as_slice());
     let size = (columns.wide, columns.tall.saturating_add(44));
-    let mut svg = Svg::new(alloc);
+    let mut svg = Markup::new(alloc);
     let verdict = (*at, Reason::NoRun);
     let sentence = b"No deck can have given all of these replies.";
     put_head(&mut svg, size, verdict, sentence)?;
@@ -177,7 +177,7 @@ fn draw_contradiction<R: Read + Drop>(
 
 /// Puts the head of a picture that is so wide and so tall: the no at a record by a reason, and a sentence below it.
 fn put_head(
-    svg: &mut Svg,
+    svg: &mut Markup,
     (wide, tall): (u64, u64),
     (at, reason): (u32, Reason),
     below: &[u8],

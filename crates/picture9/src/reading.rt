@@ -2,7 +2,7 @@
 
 use crate::blocks::{Blocks, Seen};
 use crate::choice::Broke;
-use crate::svg::Done;
+use crate::markup::Done;
 use block9::{BYTE_GAP_US, Reason};
 use capture9::{GREATEST_LIMIT, LineByte, Records, Wire};
 use report9::{Beginning, JudgeError};
@@ -10,10 +10,10 @@ use std::alloc::{AllocError, Global};
 use std::io::Read;
 
 /// How many records before the one that breaks may be drawn.
-const RECORDS_BEFORE: u32 = 240;
+pub(crate) const RECORDS_BEFORE: u32 = 240;
 
 /// How many records after it may be drawn.
-const RECORDS_AFTER: u32 = 80;
+pub(crate) const RECORDS_AFTER: u32 = 80;
 
 /// What is read a second time.
 #[derive(Clone, Copy)]
@@ -29,13 +29,13 @@ pub(crate) struct Asked {
 
 /// The reading, up to the record that breaks.
 #[derive(Drop)]
-struct Reading {
+pub(crate) struct Reading {
     asked: Asked,
     last: Option<LineByte>,
     /// Whether the part was begun.
     is_begun: bool,
     blocks: Blocks,
-    seen: Vec<Seen>,
+    pub(crate) seen: Vec<Seen>,
 }
 
 /// Reads the records of the part around the one that breaks, of the whole capture. Behind that one a bad row ends them, as nothing was
@@ -46,13 +46,7 @@ pub(crate) fn read_around<R: Read + Drop>(
     asked: &Asked,
 ) -> Result<Vec<Seen>, JudgeError> {
     let mut records = Records::new(alloc, reader, GREATEST_LIMIT);
-    let mut reading = Reading {
-        asked: *asked,
-        last: None,
-        is_begun: false,
-        blocks: Blocks::NONE,
-        seen: Vec::new(alloc),
-    };
+    let mut reading = Reading::new(alloc, asked);
     for number in 1..=asked.at {
         let Some(record) = records.next()? else {
             break;
@@ -80,9 +74,32 @@ fn read_after<R: Read + Drop>(
 }
 
 impl Reading {
+    /// Of no record yet.
+    pub(crate) fn new(alloc: Global, asked: &Asked) -> Reading {
+        Reading {
+            asked: *asked,
+            last: None,
+            is_begun: false,
+            blocks: Blocks::NONE,
+            seen: Vec::new(alloc),
+        }
+    }
+
+    /// Takes a record up to the one that breaks, where the reading began inside the capture: blocks are read from the first record on
+    /// that may begin a command. In a part that was judged, each of them does.
+    pub(crate) fn take_inside(&mut self, number: u32, record: LineByte) -> Done {
+        self.is_begun = self.is_begun || self.asked.begins_inside(number, record, self.last);
+        self.see(number, record)
+    }
+
     /// Takes a record up to the one that breaks.
     fn take(&mut self, number: u32, record: LineByte) -> Done {
         self.is_begun = self.is_begun || self.asked.begins_part(number, record, self.last);
+        self.see(number, record)
+    }
+
+    /// Reads the block of a record, where the part was begun.
+    fn see(&mut self, number: u32, record: LineByte) -> Done {
         self.last = Some(record);
         if !self.is_begun {
             return Ok(());
@@ -95,7 +112,7 @@ impl Reading {
     }
 
     /// Takes the records after that.
-    fn take_after(&mut self, after: &[LineByte]) -> Done {
+    pub(crate) fn take_after(&mut self, after: &[LineByte]) -> Done {
         let mut number = self.asked.at;
         for (place, record) in after.iter().enumerate() {
             number = number.saturating_add(1);
@@ -112,6 +129,15 @@ impl Reading {
 }
 
 impl Asked {
+    /// Whether blocks are read from this record on, which comes after `last`, where the reading began inside the capture.
+    fn begins_inside(&self, number: u32, record: LineByte, last: Option<LineByte>) -> bool {
+        match self.before {
+            _ if number == self.at => true,
+            None if number > 1 => may_begin(record, last),
+            _ => self.begins_part(number, record, last),
+        }
+    }
+
     /// Whether the part begins with this record, which comes after `last`.
     fn begins_part(&self, number: u32, record: LineByte, last: Option<LineByte>) -> bool {
         match self.before {

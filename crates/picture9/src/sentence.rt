@@ -1,6 +1,6 @@
 //! What a break says, in a sentence.
 
-use crate::svg::Done;
+use crate::markup::Done;
 use block9::Reason;
 use report9::{put_hex, put_text};
 

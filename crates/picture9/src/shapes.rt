@@ -2,8 +2,8 @@
 //! those from above in pixels.
 
 use crate::look::Look;
+use crate::markup::{Done, Markup};
 use crate::numbers::{MICROSECOND, PIXEL, milliseconds};
-use crate::svg::{Done, Svg};
 use block9::BYTE_TIME_US;
 use capture9::LineByte;
 use report9::put_hex;
@@ -32,7 +32,7 @@ pub(crate) enum Standing {
 }
 
 /// Draws a line.
-pub(crate) fn draw_line(svg: &mut Svg, from: Point, to: Point, look: Look) -> Done {
+pub(crate) fn draw_line(svg: &mut Markup, from: Point, to: Point, look: Look) -> Done {
     svg.put_place("<line x1=\"", from.0)?;
     svg.put_whole("\" y1=\"", from.1)?;
     svg.put_place("\" x2=\"", to.0)?;
@@ -41,40 +41,40 @@ pub(crate) fn draw_line(svg: &mut Svg, from: Point, to: Point, look: Look) -> Do
 }
 
 /// Ends the last attribute of a shape, and the shape.
-fn end_shape(svg: &mut Svg, look: Look) -> Done {
+fn end_shape(svg: &mut Markup, look: Look) -> Done {
     svg.put_mark("\"")?;
-    svg.put_mark(look.attributes())?;
+    svg.put_mark(look.attributes(svg.style()))?;
     svg.put_mark("/>\n")
 }
 
 /// Begins a text, whose words come next: the first of them stands here.
-pub(crate) fn begin_text(svg: &mut Svg, at: Point, look: Look) -> Done {
+pub(crate) fn begin_text(svg: &mut Markup, at: Point, look: Look) -> Done {
     begin_words(svg, at, "\" text-anchor=\"start\"", look)
 }
 
 /// Begins a text at this anchor.
-fn begin_words(svg: &mut Svg, at: Point, anchor: &'static str, look: Look) -> Done {
+fn begin_words(svg: &mut Markup, at: Point, anchor: &'static str, look: Look) -> Done {
     svg.put_place("<text x=\"", at.0)?;
     svg.put_whole("\" y=\"", at.1)?;
     svg.put_mark(anchor)?;
-    svg.put_mark(look.attributes())?;
+    svg.put_mark(look.attributes(svg.style()))?;
     svg.put_mark(">")
 }
 
 /// Ends a text.
-pub(crate) fn end_text(svg: &mut Svg) -> Done {
+pub(crate) fn end_text(svg: &mut Markup) -> Done {
     svg.put_mark("</text>\n")
 }
 
 /// Draws a text that begins here.
-pub(crate) fn draw_text(svg: &mut Svg, at: Point, look: Look, words: &[u8]) -> Done {
+pub(crate) fn draw_text(svg: &mut Markup, at: Point, look: Look, words: &[u8]) -> Done {
     begin_text(svg, at, look)?;
     svg.put_foreign(words)?;
     end_text(svg)
 }
 
 /// Draws a text whose middle is here.
-pub(crate) fn draw_middle(svg: &mut Svg, at: Point, look: Look, words: &[u8]) -> Done {
+pub(crate) fn draw_middle(svg: &mut Markup, at: Point, look: Look, words: &[u8]) -> Done {
     begin_words(svg, at, "\" text-anchor=\"middle\"", look)?;
     svg.put_foreign(words)?;
     end_text(svg)
@@ -82,7 +82,7 @@ pub(crate) fn draw_middle(svg: &mut Svg, at: Point, look: Look, words: &[u8]) ->
 
 /// Draws the box of a byte, with its digits, and its record and stamp as its title.
 pub(crate) fn draw_box(
-    svg: &mut Svg,
+    svg: &mut Markup,
     at: Point,
     standing: Standing,
     number: u32,
@@ -98,7 +98,7 @@ pub(crate) fn draw_box(
     svg.put_place("\" width=\"", BOX_WIDE)?;
     svg.put_whole("\" height=\"", BOX_TALL)?;
     svg.put_mark("\"")?;
-    svg.put_mark(look.attributes())?;
+    svg.put_mark(look.attributes(svg.style()))?;
     svg.put_whole("><title>record ", u64::from(number))?;
     svg.put_mark(", ")?;
     svg.put_foreign(milliseconds(svg.alloc(), record.time_us)?.as_slice())?;
@@ -111,7 +111,7 @@ pub(crate) fn draw_box(
 }
 
 /// Draws an arrow with its tip here, and then as the path says.
-pub(crate) fn draw_arrow(svg: &mut Svg, tip: Point, path: &'static str) -> Done {
+pub(crate) fn draw_arrow(svg: &mut Markup, tip: Point, path: &'static str) -> Done {
     svg.put_place("<path d=\"M ", tip.0)?;
     svg.put_whole(" ", tip.1)?;
     svg.put_mark(path)?;
@@ -120,7 +120,7 @@ pub(crate) fn draw_arrow(svg: &mut Svg, tip: Point, path: &'static str) -> Done 
 
 /// Draws a bracket from here to there, whose ends are moved down by the first and back by the second.
 pub(crate) fn draw_bracket(
-    svg: &mut Svg,
+    svg: &mut Markup,
     from: Point,
     to: u64,
     (down, back): (&'static str, &'static str),
@@ -134,7 +134,7 @@ pub(crate) fn draw_bracket(
 }
 
 /// Draws how long something lasts: a line with a stroke at each end.
-pub(crate) fn draw_span(svg: &mut Svg, from: u64, to: u64, y: u64, look: Look) -> Done {
+pub(crate) fn draw_span(svg: &mut Markup, from: u64, to: u64, y: u64, look: Look) -> Done {
     let (above, below) = (y.saturating_sub(5), y.saturating_add(5));
     draw_line(svg, (from, y), (to, y), look)?;
     draw_line(svg, (from, above), (from, below), look)?;
@@ -142,7 +142,7 @@ pub(crate) fn draw_span(svg: &mut Svg, from: u64, to: u64, y: u64, look: Look) -
 }
 
 /// Draws two strokes where a line is cut.
-pub(crate) fn draw_slashes(svg: &mut Svg, about: u64, y: u64) -> Done {
+pub(crate) fn draw_slashes(svg: &mut Markup, about: u64, y: u64) -> Done {
     svg.put_place("<rect x=\"", about.saturating_sub(5 * PIXEL))?;
     svg.put_whole("\" y=\"", y.saturating_sub(7))?;
     svg.put_mark("\" width=\"10\" height=\"14")?;

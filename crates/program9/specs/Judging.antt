@@ -21,7 +21,7 @@ use Rattle.judge9.specs.Judging.{Answers}
 use Rattle.judge9.specs.Report.{Told, by_totals, by_verdict}
 use Rattle.judge9.specs.RunVerdict.{IsJudgedRun, verdict_of}
 use Rattle.words9.specs.declared.task.Report.{Report}
-use Rattle.words9.specs.declared.task.Report.TheVariants.{Clock, Info, JsonRun, Made, Parts, Picture, Run, ToBreak, Try}
+use Rattle.words9.specs.declared.task.Report.TheVariants.{Clock, Info, JsonRun, Made, Page, Parts, Picture, Run, ToBreak, Try}
 use Rattle.view9.specs.declared.clock.ClockFault.{ClockFault}
 use Rattle.view9.specs.declared.seen.Ending.{Ending}
 use Rattle.program9.specs.declared.ending.Message.TheVariants as message
@@ -100,6 +100,14 @@ IsDrawn end = ((drawn : Drawn) × (end ≡ outcome_drawn drawn)) ⊎ (end ≡ re
 abbrev pub EndsDrawn : Outcome → Type 0
 EndsDrawn end = (told : Result Outcome JudgeError) × IfOk told IsDrawn × (end ≡ outcome_kept told)
 
+-- a page was to be made: the capture could not be read to its end, or the page was written
+abbrev pub IsPaged : Outcome → Type 0
+IsPaged end = ((ending : Ending) × (end ≡ outcome_made (Ok ending))) ⊎ (end ≡ record { status = 4; message = message.TextFault })
+
+-- the same of a page; what stands on it is tested
+abbrev pub EndsPaged : Outcome → Type 0
+EndsPaged end = (told : Result Outcome JudgeError) × IfOk told IsPaged × (end ≡ outcome_kept told)
+
 -- a capture was judged and told by this report, and this is the end
 abbrev pub EndsJudged : Report → Job → Option (List ℕ) → Option (List ℕ) → Outcome → Option (List ℕ) → Type 0
 EndsJudged Run job capture old end now = EndsAs (IsJudgedWithRun job capture old) outcome_of end now
@@ -111,3 +119,4 @@ EndsJudged (Clock form) job capture old end now = EndsRewritten end
 EndsJudged Info job capture old end now = EndsInfo end
 EndsJudged (Try extent) job capture old end now = EndsAs (TellsAnswers (record { extent = extent; beginning = job.asked.beginning }) job.profile capture old) outcome_kept end now
 EndsJudged (Picture extent) job capture old end now = EndsDrawn end
+EndsJudged Page job capture old end now = EndsPaged end

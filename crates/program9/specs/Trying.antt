@@ -10,6 +10,7 @@ use Rattle.capture9.specs.declared.error.CaptureKind.TheVariants as kind
 use Rattle.capture9.specs.Fields.{greatest_limit}
 use Rattle.capture9.specs.Rows.{rows_within}
 use Rattle.deck9.specs.declared.deck.Deck.{Deck}
+use Rattle.info9.specs.Words.{rate_word}
 use Rattle.deck9.specs.declared.profile.Profile.{Profile}
 use Rattle.deck9.specs.declared.state.Hands.{Hands}
 use Rattle.deck9.specs.declared.state.Hands.TheVariants as hands
@@ -70,20 +71,13 @@ all_terms own = terms_at_each own.deck (own.rate ∷ others_than own.rate)
 abbrev pub profile_with : Option Deck → Terms → Profile
 profile_with deck t = record { rate = t.rate; hands = t.hands; deck = if t.has_sheet then deck else None }
 
--- the word of a rate
-abbrev pub rate_text : Rate → List ℕ
-rate_text rate.Fps24 = codes "24"
-rate_text rate.Fps25 = codes "25"
-rate_text rate.Fps30 = codes "30"
-rate_text rate.DropFrame = codes "29.97df"
-
 abbrev pub hands_text : Hands → List ℕ
 hands_text hands.None = []
 hands_text hands.Allowed = codes " --hands"
 
 -- the options that ask so; that of the sheet stands without its file
 abbrev pub words_of : Terms → List ℕ
-words_of t = codes "--rate " ++ rate_text t.rate ++ (if t.has_sheet then codes " --deck" else []) ++ hands_text t.hands
+words_of t = codes "--rate " ++ rate_word t.rate ++ (if t.has_sheet then codes " --deck" else []) ++ hands_text t.hands
 
 -- ---- what is answered
 

@@ -9,7 +9,7 @@ ghost use Rattle.program9.specs.Judging.{EndsJudged, HandsOn, IsJudgedWithRun, W
 use crate::again::Again;
 use crate::buffered::Buffered;
 use crate::ending::Outcome;
-use crate::making::{draw, make, rewrite_times, tell_info};
+use crate::making::{draw, make, make_page, rewrite_times, tell_info};
 use crate::status::{
     outcome, outcome_in_parts, outcome_kept, outcome_made, outcome_rewritten, outcome_told,
 };
@@ -31,10 +31,20 @@ pub struct Job {
     pub profile: Profile,
 }
 
+/// The files that the words name.
+#[derive(Debug, Drop, PartialEq, Eq)]
+pub struct Named {
+    /// That of the capture; standard input where there is none.
+    pub file: Option<String>,
+    /// That of the deck's sheet, where there is one.
+    pub sheet: Option<String>,
+}
+
 /// Judges the capture that the reader gives as the job says, and passes the whole report on to the writer behind the buffer.
 ///
 /// The report is that of `judge_for`, that of `judge_parts_for`, or the text of the run that `judge_with_run_for` answered, of which
-/// there is none where there is no verdict; or it is what a view makes, of which nothing is promised here. The end is that of the verdict, of the totals or of the refusal of that judging, as
+/// there is none where there is no verdict; or it is what a view makes, of which nothing is promised here. A page says which files the words
+/// name. The end is that of the verdict, of the totals or of the refusal of that judging, as
 /// [`outcome`] and [`outcome_in_parts`] say, where the writer took the whole report. Else it is a write fault, and the writer has a
 /// first part of the report; what the buffer still holds is not written. After a write that failed, that was interrupted or that
 /// took no byte, none is tried again.
@@ -43,6 +53,7 @@ pub fn judge_and_flush<R: Read + Drop, W: Write + Drop>(
     reader: R,
     out: &mut Buffered<W>,
     job: Job,
+    named: &Named,
 ) -> Outcome
     ensures { EndsJudged job.asked.report job (R.remaining reader) (held_contents W.contents out.old) result (contents_behind W.contents out.new) }
 {
@@ -98,6 +109,10 @@ pub fn judge_and_flush<R: Read + Drop, W: Write + Drop>(
         Report::Picture(extent) => {
             let scope = Scope { extent, beginning };
             let told = draw(alloc, reader, out, scope, &job);
+            outcome_kept(ended(out, told))
+        }
+        Report::Page => {
+            let told = make_page(alloc, reader, out, &job, named);
             outcome_kept(ended(out, told))
         }
     }

@@ -20,7 +20,7 @@ mod version;
 
 pub use buffered::Buffered;
 pub use ending::{End, Message, Outcome, Unopened, UnreadSheet, WhyUnopened};
-pub use judging::{Job, judge_and_flush};
+pub use judging::{Job, Named, judge_and_flush};
 pub use no_header::{FoundHeader, LooksLike, NoHeader};
 pub use program::run_program;
 pub use status::{

@@ -1,13 +1,14 @@
 //! What is made of a capture's events, or of a text, beside the reports.
 ghost use Rattle.std.specs.Prelude.{IfOk};
-ghost use Rattle.program9.specs.Judging.{IsDrawn};
+ghost use Rattle.program9.specs.Judging.{IsDrawn, IsPaged};
 
 use crate::again::Kept;
 use crate::ending::Outcome;
-use crate::judging::Job;
-use crate::status::outcome_drawn;
+use crate::judging::{Job, Named};
+use crate::status::{outcome_drawn, outcome_made};
 use crate::trying::unkept;
 use info9::write_info;
+use page9::{PageOf, Readings, write_page};
 use picture9::{Twice, Wanted, write_picture};
 use report9::{Extent, JudgeError, Scope, TimeForm};
 use std::alloc::Global;
@@ -15,7 +16,7 @@ use std::io::{BufReader, Read, Write};
 use view9::{
     ClockFault, Ending, write_clock, write_delays, write_digest, write_json, write_motion,
 };
-use words9::Made;
+use words9::{Made, VERSION_LINE};
 
 /// Judges the capture that the reader gives, so far, and writes what is made of it: how the judging ends.
 #[inline(never)] // else the loops over records of the reports are compiled with those of the views in one function, and worse
@@ -89,4 +90,36 @@ pub(crate) fn draw<R: Read + Drop, W: Write>(
     };
     let drawn = write_picture(alloc, capture, writer, scope, &job.profile, &wanted)?;
     Ok(outcome_drawn(&drawn))
+}
+
+/// Keeps the capture that the reader gives, and makes a page of it, which says what the words name: how that ends.
+#[inline(never)] // as above
+pub(crate) fn make_page<R: Read + Drop, W: Write>(
+    alloc: Global,
+    reader: R,
+    writer: &mut W,
+    job: &Job,
+    named: &Named,
+) -> Result<Outcome, JudgeError>
+    ensures { IfOk result IsPaged }
+{
+    let kept = match Kept::of(alloc, reader) {
+        Ok(kept) => kept,
+        Err(e) => return unkept(&e),
+    };
+    let page = PageOf {
+        text: kept.text.as_slice(),
+        file: named.file.as_ref().map(|file| file.as_bytes()),
+        sheet: named.sheet.as_ref().map(|sheet| sheet.as_bytes()),
+        version: VERSION_LINE.as_bytes(),
+        beginning: job.asked.beginning,
+        stretch: job.asked.stretch,
+    };
+    let readings = Readings {
+        first: kept.again(),
+        judged: kept.again(),
+        drawn: kept.again(),
+    };
+    let ending = write_page(alloc, readings, writer, &job.profile, &page)?;
+    Ok(outcome_made(&Ok(ending)))
 }

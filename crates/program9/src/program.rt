@@ -9,7 +9,7 @@ ghost use Rattle.program9.specs.Program.{Begins, EndsBefore, EndsProgram, EndsTa
 use crate::buffered::Buffered;
 use crate::ending::{End, Message, Outcome, Unopened, WhyUnopened};
 use crate::first_bytes::FirstBytes;
-use crate::judging::{Job, judge_and_flush};
+use crate::judging::{Job, Named, judge_and_flush};
 use crate::no_header::{found_in, with_header};
 use crate::sheet::find_deck;
 use crate::version::tell_version;
@@ -27,8 +27,8 @@ struct Begun<R: Read + Drop, W: Write + Drop> {
     out: Buffered<W>,
     /// What is asked of the capture, and for which deck.
     job: Job,
-    /// The capture's file, by the name that the words give; standard input where there is none.
-    file: Option<String>,
+    /// What the words name.
+    named: Named,
 }
 
 /// The program from its words, or from why there are none, to its end: reads the task, reads the deck's sheet that it names, opens
@@ -116,11 +116,11 @@ fn carry_out<
                 reader,
                 mut out,
                 job,
-                file,
+                named,
             } = begun;
             let mut reader = FirstBytes::of(reader);
-            let judged = judge_and_flush(alloc, &mut reader, &mut out, job);
-            let judged = with_header(judged, file, found_in(reader.as_slice()));
+            let judged = judge_and_flush(alloc, &mut reader, &mut out, job, &named);
+            let judged = with_header(judged, named.file, found_in(reader.as_slice()));
             taken_back(out, judged)
         }
         Err(ended) => ended,
@@ -145,7 +145,7 @@ fn begin<
     requires sheet { G.IsAlwaysCallable sheet_opener }
     requires capture { F.IsAlwaysCallable opener }
     ensures begins { IfOk result (λ b. Begins (record { opens = FnOnceReturnsAt F.FnOnce opener; coming = R.remaining; opens_sheet = FnOnceReturnsAt G.FnOnce sheet_opener; coming_sheet = S.remaining; contents = W.contents }) task out b.reader b.out b.job) }
-    ensures file { IfOk result (λ b. b.file ≡ task.file) }
+    ensures file { IfOk result (λ b. b.named.file ≡ task.file) }
     ensures ends { IfErr result (λ e. EndsBefore (record { opens = FnOnceReturnsAt F.FnOnce opener; coming = R.remaining; opens_sheet = FnOnceReturnsAt G.FnOnce sheet_opener; coming_sheet = S.remaining; contents = W.contents }) task e.0) }
     ensures untouched { IfErr result (λ e. e.1 ≡ out) }
 {
@@ -156,8 +156,8 @@ fn begin<
         hands,
         deck,
     } = task;
-    let deck = match find_deck(alloc, deck, sheet_opener) {
-        Ok(deck) => deck,
+    let (deck, sheet) = match find_deck(alloc, deck, sheet_opener) {
+        Ok(found) => found,
         Err(end) => return Err((end, out)),
     };
     let reader = match opener(&file) {
@@ -172,7 +172,7 @@ fn begin<
                 reader,
                 out,
                 job,
-                file,
+                named: Named { file, sheet },
             })
         }
         Err(out) => Err((Outcome::new(5, Message::NoMemory), out)),

@@ -38,6 +38,26 @@ impl BreakRun {
         is_equal
     }
 
+    /// The first of them.
+    pub fn first(&self) -> &SeenBreak {
+        &self.first
+    }
+
+    /// The number of the last one's record.
+    pub fn last_at(&self) -> u32 {
+        self.last_at
+    }
+
+    /// The last one's time, in microseconds.
+    pub fn last_us(&self) -> u64 {
+        self.last_us
+    }
+
+    /// How many there are: one at least. The number stays at its greatest once that is reached.
+    pub fn breaks(&self) -> u32 {
+        self.breaks
+    }
+
     /// Puts their line.
     pub fn put(&self, line: &mut Vec<u8>) -> Result<(), AllocError> {
         let first = &self.first;

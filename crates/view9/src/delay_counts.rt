@@ -34,6 +34,18 @@ impl DelayCounts {
         self.replies
     }
 
+    /// The least delay, the middle one, the 99th of a hundred and the greatest, in microseconds; 0 where there is no reply.
+    pub fn told(&self) -> [u64; 4] {
+        let middle = self.replies.div_ceil(2);
+        let nearly_all = self.replies.saturating_mul(99).div_ceil(100);
+        [
+            self.at_place(1),
+            self.at_place(middle),
+            self.at_place(nearly_all),
+            self.at_place(self.replies),
+        ]
+    }
+
     /// The delays in order of size, each with the number of its replies.
     pub fn iter(&self) -> Iter<'_, u64, u64> {
         self.of_delay.iter()

@@ -179,18 +179,14 @@ impl<W: Write> View for Delays<'_, W> {
 
 /// Puts how many replies there are, and the least delay of them, the middle one, the 99th of a hundred and the greatest.
 fn put_counts(text: &mut Vec<u8>, counts: &DelayCounts) -> Result<(), AllocError> {
-    let replies = counts.replies();
-    put_right(text, replies, 7)?;
-    for place in [
-        1,
-        replies.div_ceil(2),
-        replies.saturating_mul(99).div_ceil(100),
-    ] {
+    put_right(text, counts.replies(), 7)?;
+    let [least, middle, nearly_all, greatest] = counts.told();
+    for delay_us in [least, middle, nearly_all] {
         put_text(text, " ")?;
-        put_right(text, counts.at_place(place), 6)?;
+        put_right(text, delay_us, 6)?;
     }
     put_text(text, " ")?;
-    put_right(text, counts.at_place(replies), 8)?;
+    put_right(text, greatest, 8)?;
     put_text(text, "  ")
 }
 

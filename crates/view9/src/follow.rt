@@ -1,11 +1,14 @@
 //! The one loop over what a judging comes to, for every view.
-ghost use Rattle.judge9.specs.Standing.{CanGoOn, ShowsExchange};
+ghost use Rattle.std.specs.Prelude.{◌≡◌};
+ghost use Rattle.judge9.specs.History.{nothing_told};
+ghost use Rattle.judge9.specs.Standing.{CanGoOn, ShowsExchange, Stands};
+ghost use Rattle.judge9.specs.declared.event.Event.TheVariants as AnEvent;
 
-use crate::seen::{Ending, SeenBreak, SeenExchange, SeenLate, View};
+use crate::seen::{Ending, ExplainedView, SeenBreak, SeenExchange, SeenLate, View};
 use block9::Reason;
 use capture9::LineByte;
 use deck9::{Knowledge, Profile};
-use judge9::{Break, Event, Judging};
+use judge9::{Break, Event, Judging, Kept};
 use report9::{Extent, JudgeError, Scope, Stretch};
 use std::alloc::Global;
 use std::io::Read;
@@ -52,6 +55,80 @@ fn show_events<R: Read + Drop, V: View>(
             }
             Event::End => return Ok(()),
         }
+    }
+}
+
+/// Judges the capture that the reader gives, as [`show`] does, and also tells the view why each record breaks a rule. So the exchanges
+/// of a part are kept as long as it goes on, as far as a contradiction may need them.
+pub fn show_explained<R: Read + Drop, V: ExplainedView>(
+    alloc: Global,
+    reader: R,
+    view: &mut V,
+    scope: Scope,
+    stretch: Stretch,
+    profile: &Profile,
+) -> Result<Ending, JudgeError> {
+    let mut judging = Judging::new(alloc, reader, scope, profile)?;
+    let shown = explain_events(alloc, &mut judging, view, stretch);
+    let ending = ending_of(&judging, scope.extent);
+    drop(judging);
+    shown?;
+    view.end(&ending)?;
+    Ok(ending)
+}
+
+/// Shows all events up to the end, and tells why records break rules.
+fn explain_events<R: Read + Drop, V: ExplainedView>(
+    alloc: Global,
+    judging: &mut Judging<R>,
+    view: &mut V,
+    stretch: Stretch,
+) -> Result<(), JudgeError>
+    requires stands { Stands judging.old.scope judging.old.profile.now judging.old.feed.rows.rows nothing_told judging.old }
+    requires ready { CanGoOn judging.old.stage judging.old.feed }
+{
+    let mut kept = Kept::new(alloc);
+    let mut known = None;
+    'events: loop {
+        match judging.next()? {
+            Event::End => break,
+            event => {
+                let why = kept.follow(alloc, judging, event)?;
+                if let Some(why) = why {
+                    view.why(why)?;
+                }
+                known = show_event(judging, view, stretch, event, known)?;
+            }
+        }
+    }
+    Ok(())
+}
+
+/// Shows an event that is not the end: what is known of the deck from here on.
+fn show_event<R: Read + Drop, V: View>(
+    judging: &Judging<R>,
+    view: &mut V,
+    stretch: Stretch,
+    event: Event,
+    known: Option<Knowledge>,
+) -> Result<Option<Knowledge>, JudgeError>
+    requires { event ≡ AnEvent.Exchange → ShowsExchange judging.now.feed }
+{
+    match event {
+        Event::Exchange => {
+            let seen = see_exchange(judging, known, stretch);
+            view.exchange(&seen)?;
+            Ok(Some(seen.after))
+        }
+        Event::LateReply(first) => {
+            view.late(&see_late(judging, first, stretch))?;
+            Ok(known)
+        }
+        Event::Break(broken) => {
+            view.broken(&see_break(judging, broken, stretch))?;
+            Ok(None)
+        }
+        Event::End => Ok(known),
     }
 }
 

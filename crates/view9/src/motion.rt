@@ -3,44 +3,23 @@
 //! What comes after a command is what comes before the next transport command that is acknowledged, or before the end of the part.
 //! A late reply ends no part, and so no command's line.
 
-use crate::follow::show;
+use crate::motion_lines::{MotionLine, MotionLines};
 use crate::outcomes::Outcomes;
-use crate::seen::{Ending, SeenBreak, SeenExchange, SeenLate, View};
+use crate::seen::SeenExchange;
 use crate::track::{Answer, Place, take_answer};
 use crate::transport::{Followed, Shown, Transport, Way, count_shown};
-use crate::worth::{Showing, Worth};
+use crate::worth::{Showing, weigh};
 use block9::Command;
 use deck9::{Known, ModeSet, Profile, Status};
-use report9::{JudgeError, Scope, Stretch, put_text, write_all};
 use std::alloc::{AllocError, Global};
-use std::io::{Read, Write};
 
-/// The first line.
-const TITLE: &str =
-    "what the deck did after each transport command that it acknowledged; nothing is judged, a deck may take any time\n";
-
-/// Writes what the deck did in the capture that the reader gives: how the capture ends. A command's line is written as soon as the
-/// next one comes. All of the capture is followed, and what lies in the stretch has lines and counts: a command by its
-/// acknowledgement, and what is worth looking at by the record that it names. The writer is not flushed.
-pub fn write_motion<R: Read + Drop, W: Write>(
-    alloc: Global,
-    reader: R,
-    writer: &mut W,
-    scope: Scope,
-    stretch: Stretch,
-    profile: &Profile,
-) -> Result<Ending, JudgeError> {
-    let mut view = Motion::new(alloc, writer, profile)?;
-    show(alloc, reader, &mut view, scope, stretch, profile)
-}
-
-/// What is followed of a deck.
+/// Follows what a deck does. It is handed each exchange, and the end of each part. Each time it has the lines of what ended with it: of
+/// a command, and of what is worth looking at. They stay until the next time.
 #[derive(Drop)]
-struct Motion<'a, W: Write> {
+pub struct Motion<'a> {
     profile: &'a Profile,
-    writer: &'a mut W,
-    /// Lines that are to be written.
-    lines: Vec<u8>,
+    /// What ended with the last exchange, or the last part.
+    told: MotionLines,
     /// The last transport command of the part, and what came since.
     followed: Option<Followed<'a>>,
     /// How often which modes were shown since then.
@@ -48,28 +27,65 @@ struct Motion<'a, W: Write> {
     /// The last statuses, as far as they show the same.
     showing: Option<Showing>,
     outcomes: Outcomes<'a>,
-    worth: Worth,
 }
 
-impl<'a, W: Write> Motion<'a, W> {
+impl<'a> Motion<'a> {
     /// Of nothing yet.
-    fn new(
-        alloc: Global,
-        writer: &'a mut W,
-        profile: &'a Profile,
-    ) -> Result<Motion<'a, W>, AllocError> {
-        let mut lines = Vec::new(alloc);
-        put_text(&mut lines, TITLE)?;
-        Ok(Motion {
+    pub fn new(alloc: Global, profile: &'a Profile) -> Motion<'a> {
+        Motion {
             profile,
-            writer,
-            lines,
+            told: MotionLines::new(alloc),
             followed: None,
             shown: Vec::new(alloc),
             showing: None,
             outcomes: Outcomes::new(alloc),
-            worth: Worth::new(alloc),
-        })
+        }
+    }
+
+    /// Takes the next exchange.
+    pub fn exchange(&mut self, seen: &SeenExchange<'_>) -> Result<(), AllocError> {
+        self.told.clear();
+        if seen.exchange.reply.is_nak() {
+            return Ok(());
+        }
+        match seen.exchange.command {
+            Command::StatusSense { asked } => return self.take_status(asked, seen),
+            Command::CurrentTimeSense { .. } => {
+                if let Some(answer) = Answer::of(self.profile.rate, seen) {
+                    self.take_time(&answer);
+                }
+            }
+            _ => {
+                if let Some(transport) = Transport::of(self.profile, seen) {
+                    return self.begin_command(transport, seen);
+                }
+            }
+        }
+        Ok(())
+    }
+
+    /// Ends a part, by a break that is no late reply or at the end of the capture: what comes after it is told of no command before.
+    pub fn end_part(&mut self) -> Result<(), AllocError> {
+        self.told.clear();
+        self.end_showing()?;
+        self.end_command()?;
+        self.followed = None;
+        Ok(())
+    }
+
+    /// How many lines there are of what ended with the last exchange, or the last part.
+    pub fn lines(&self) -> usize {
+        self.told.len()
+    }
+
+    /// The line at a place in their order, counted from 0; none where there is no such place.
+    pub fn line(&self, place: usize) -> Option<MotionLine<'_>> {
+        self.told.get(place)
+    }
+
+    /// What came of the commands that have a mode of their own and a line.
+    pub fn outcomes(&self) -> &Outcomes<'a> {
+        &self.outcomes
     }
 
     /// Follows a command from here on. What is shown goes on where the command asks for that, and for the same way as the one before:
@@ -78,7 +94,7 @@ impl<'a, W: Write> Motion<'a, W> {
         &mut self,
         transport: Transport<'a>,
         seen: &SeenExchange<'_>,
-    ) -> Result<(), JudgeError> {
+    ) -> Result<(), AllocError> {
         self.end_command()?;
         let way = match &self.followed {
             Some(followed) => followed.transport.way,
@@ -97,7 +113,7 @@ impl<'a, W: Write> Motion<'a, W> {
     }
 
     /// Takes a status. It shows the mode that is known after it, and where none is those that its data allow.
-    fn take_status(&mut self, asked: u8, seen: &SeenExchange<'_>) -> Result<(), JudgeError> {
+    fn take_status(&mut self, asked: u8, seen: &SeenExchange<'_>) -> Result<(), AllocError> {
         let Some(allowed) = Status::of(asked, &seen.exchange.reply).shown else {
             return Ok(());
         };
@@ -114,7 +130,7 @@ impl<'a, W: Write> Motion<'a, W> {
     }
 
     /// Takes the modes that a status shows.
-    fn take_modes(&mut self, modes: ModeSet, place: Place) -> Result<(), JudgeError> {
+    fn take_modes(&mut self, modes: ModeSet, place: Place) -> Result<(), AllocError> {
         if let Some(showing) = &mut self.showing {
             if showing.modes == modes {
                 showing.go_on();
@@ -137,80 +153,36 @@ impl<'a, W: Write> Motion<'a, W> {
     }
 
     /// Weighs what was shown up to now.
-    fn end_showing(&mut self) -> Result<(), JudgeError> {
+    fn end_showing(&mut self) -> Result<(), AllocError> {
         if let Some(showing) = self.showing.take() {
-            self.worth.weigh(&showing, self.followed.as_ref())?;
+            weigh(&mut self.told, &showing, self.followed.as_ref())?;
         }
         Ok(())
     }
 
-    /// Writes the line of the command, and counts it.
-    fn end_command(&mut self) -> Result<(), JudgeError> {
+    /// Tells what came of the command, and counts it.
+    fn end_command(&mut self) -> Result<(), AllocError> {
         let Some(followed) = &self.followed else {
             return Ok(());
         };
         if !followed.place.is_shown {
             return Ok(());
         }
-        let shown = self.shown.as_slice();
-        followed.put(&mut self.lines, shown)?;
+        tell_command(&mut self.told, followed, self.shown.as_slice(), false)?;
         if followed.is_never_shown() {
-            self.worth.take(followed, shown)?;
+            tell_command(&mut self.told, followed, self.shown.as_slice(), true)?;
         }
-        self.outcomes.count(followed)?;
-        self.write()
-    }
-
-    /// Ends a part: what comes after it is told of no command before.
-    fn end_part(&mut self) -> Result<(), JudgeError> {
-        self.end_showing()?;
-        self.end_command()?;
-        self.followed = None;
-        Ok(())
-    }
-
-    /// Writes the lines.
-    fn write(&mut self) -> Result<(), JudgeError> {
-        write_all(self.writer, self.lines.as_slice())?;
-        self.lines.clear();
-        Ok(())
+        self.outcomes.count(followed)
     }
 }
 
-impl<W: Write> View for Motion<'_, W> {
-    fn exchange(&mut self, seen: &SeenExchange<'_>) -> Result<(), JudgeError> {
-        if seen.exchange.reply.is_nak() {
-            return Ok(());
-        }
-        match seen.exchange.command {
-            Command::StatusSense { asked } => return self.take_status(asked, seen),
-            Command::CurrentTimeSense { .. } => {
-                if let Some(answer) = Answer::of(self.profile.rate, seen) {
-                    self.take_time(&answer);
-                }
-            }
-            _ => {
-                if let Some(transport) = Transport::of(self.profile, seen) {
-                    return self.begin_command(transport, seen);
-                }
-            }
-        }
-        Ok(())
-    }
-
-    fn late(&mut self, _late: &SeenLate) -> Result<(), JudgeError> {
-        Ok(())
-    }
-
-    fn broken(&mut self, _broken: &SeenBreak) -> Result<(), JudgeError> {
-        self.end_part()
-    }
-
-    fn end(&mut self, ending: &Ending) -> Result<(), JudgeError> {
-        self.end_part()?;
-        self.outcomes.put(&mut self.lines)?;
-        self.worth.put(&mut self.lines)?;
-        ending.put(&mut self.lines)?;
-        self.write()
-    }
+/// Tells what came of a command.
+fn tell_command(
+    told: &mut MotionLines,
+    followed: &Followed<'_>,
+    shown: &[Shown],
+    is_worth: bool,
+) -> Result<(), AllocError> {
+    followed.put(&mut told.text, shown)?;
+    told.end_line(followed.place, is_worth)
 }

@@ -7,24 +7,25 @@ use indexmap::IndexMap;
 use report9::{TextBuffer, put_text};
 use std::alloc::{AllocError, Global};
 
-/// What came of one command.
-#[derive(Clone, Copy, Default)]
-struct Outcome {
+/// What came of one command. A count stays at its greatest once that is reached.
+#[derive(Clone, Copy, Debug, Default, PartialEq, Eq)]
+pub struct Outcome {
     /// How often it was acknowledged.
-    commands: u32,
+    pub commands: u32,
     /// How often its mode was shown.
-    shown: u32,
+    pub shown: u32,
     /// How often there were statuses, and none showed its mode.
-    never: u32,
-    /// Its slowest response, in microseconds.
-    slowest_us: Option<u64>,
-    /// The record of that command's acknowledgement.
-    slowest_at: u32,
+    pub never: u32,
+    /// Its slowest response: from the acknowledgement to the first status that showed its mode, in microseconds. None where its mode was
+    /// never shown.
+    pub slowest_us: Option<u64>,
+    /// The number of that acknowledgement's last record; 0 where there is none.
+    pub slowest_at: u32,
 }
 
 /// What came of each command that has a mode of its own, in the order in which they first came.
 #[derive(Drop)]
-pub(crate) struct Outcomes<'a> {
+pub struct Outcomes<'a> {
     of_command: IndexMap<Called<'a>, Outcome>,
 }
 
@@ -44,6 +45,17 @@ impl<'a> Outcomes<'a> {
             outcome.add(followed);
         }
         Ok(())
+    }
+
+    /// How many commands there are that are called differently.
+    pub fn len(&self) -> usize {
+        self.of_command.len()
+    }
+
+    /// What the command at a place in the order is called, counted from 0, and what came of it; none where there is no such place.
+    pub fn get(&self, place: usize) -> Option<(Called<'a>, Outcome)> {
+        let (called, outcome) = self.of_command.get_index(place)?;
+        Some((*called, *outcome))
     }
 
     /// Puts the table.

@@ -2,7 +2,7 @@
 
 use block9::{Command, Exchange, Reason};
 use deck9::Knowledge;
-use report9::{JudgeError, Totals, Verdict, put_totals_line, put_verdict_line};
+use report9::{JudgeError, Totals, Verdict, WhyNo, put_totals_line, put_verdict_line};
 use std::alloc::AllocError;
 
 /// An exchange, as it was seen on the line.
@@ -86,4 +86,10 @@ pub trait View {
 
     /// The judging came to its end.
     fn end(&mut self, ending: &Ending) -> Result<(), JudgeError>;
+}
+
+/// A view that is also told why a record breaks a rule.
+pub trait ExplainedView: View {
+    /// Why the late reply or the break came that the view is told of next.
+    fn why(&mut self, why: WhyNo) -> Result<(), JudgeError>;
 }

@@ -1,6 +1,7 @@
 //! How much was known of the deck, and what took it away: how strong a yes is.
 
 use crate::called::Called;
+use crate::decimal::put_fixed;
 use crate::field::{FIELDS, Field, Value};
 use crate::seen::SeenExchange;
 use block9::{Command, Exchange};
@@ -81,15 +82,69 @@ impl<'a> Strength<'a> {
             return Ok(());
         }
         self.put_known(line)?;
-        if self.presets > 0 && self.times[Field::Local as usize].known == 0 {
-            put_ignored(line, self.presets)?;
+        if self.may_have_ignored() {
+            self.put_ignored(line)?;
+            put_text(line, "\n")?;
         }
         for (called, lapses) in self.lapses.iter() {
-            put_text(line, "no longer known after ")?;
-            called.put(line)?;
-            put_lapses(line, lapses)?;
+            put_lapses(line, *called, lapses)?;
+            put_text(line, "\n")?;
         }
         Ok(())
+    }
+
+    /// How many exchanges were counted.
+    pub fn exchanges(&self) -> u32 {
+        self.exchanges
+    }
+
+    /// At how many of them a field was known. A register that is set to a time that nobody knows does not count.
+    pub fn times_known(&self, field: Field) -> u32 {
+        self.times[field as usize].known
+    }
+
+    /// At how many of them a register was known to be set, and nobody knew to which time.
+    pub fn times_set(&self, field: Field) -> u32 {
+        self.times[field as usize].set
+    }
+
+    /// So many of the exchanges in tenths of a per cent of them, rounded down; 0 where there is none.
+    pub fn tenths(&self, times: u32) -> u64 {
+        u64::from(times) * 1000 / u64::from(self.exchanges).max(1)
+    }
+
+    /// Whether a deck in LOCAL may have ignored presets that it acknowledged, since local was never known.
+    pub fn may_have_ignored(&self) -> bool {
+        self.presets > 0 && self.times_known(Field::Local) == 0
+    }
+
+    /// Puts what such a deck may have done, with no end of a line.
+    pub fn put_ignored(&self, line: &mut Vec<u8>) -> Result<(), AllocError> {
+        put_text(
+            line,
+            "local was never known: a deck in LOCAL may have ignored the ",
+        )?;
+        if self.presets == 1 {
+            put_text(line, "preset")?;
+        } else {
+            put_count(line, "", u64::from(self.presets))?;
+            put_text(line, " presets")?;
+        }
+        put_text(line, " that it acknowledged")
+    }
+
+    /// How many commands there are, told apart by what they are called, after which a field was known no more.
+    pub fn lapses(&self) -> usize {
+        self.lapses.len()
+    }
+
+    /// Puts how often each field was known no more after such a command, with no end of a line: after the one at a place in the order in
+    /// which they first came, counted from 0. Where there is no such place nothing is put.
+    pub fn put_lapse(&self, line: &mut Vec<u8>, place: usize) -> Result<(), AllocError> {
+        match self.lapses.get_index(place) {
+            Some((called, lapses)) => put_lapses(line, *called, lapses),
+            None => Ok(()),
+        }
     }
 
     /// Puts at how many of the exchanges each field was known.
@@ -104,10 +159,10 @@ impl<'a> Strength<'a> {
             put_text(line, if *field == Field::Shown { "" } else { ", " })?;
             put_word(line, field.name(), " ")?;
             let times = self.times[*field as usize];
-            put_share(line, times.known, self.exchanges)?;
+            put_share(line, self.tenths(times.known))?;
             if times.set > 0 {
                 put_text(line, " (set ")?;
-                put_share(line, times.set, self.exchanges)?;
+                put_share(line, self.tenths(times.set))?;
                 put_text(line, ")")?;
             }
         }
@@ -127,31 +182,20 @@ fn is_preset(exchange: &Exchange) -> bool {
     is_preset && exchange.reply.is_ack()
 }
 
-/// Puts a share of a whole, as a percentage that is rounded down to a tenth.
-fn put_share(line: &mut Vec<u8>, part: u32, whole: u32) -> Result<(), AllocError> {
-    let tenths = u64::from(part) * 1000 / u64::from(whole).max(1);
-    put_count(line, "", tenths / 10)?;
-    put_count(line, ".", tenths % 10)?;
+/// Puts tenths of a per cent as a percentage.
+fn put_share(line: &mut Vec<u8>, tenths: u64) -> Result<(), AllocError> {
+    put_fixed(line, tenths, 1)?;
     put_text(line, " %")
 }
 
-/// Puts what a deck in LOCAL may have done to the presets, where local was never known.
-fn put_ignored(line: &mut Vec<u8>, presets: u32) -> Result<(), AllocError> {
-    put_text(
-        line,
-        "local was never known: a deck in LOCAL may have ignored the ",
-    )?;
-    if presets == 1 {
-        put_text(line, "preset")?;
-    } else {
-        put_count(line, "", u64::from(presets))?;
-        put_text(line, " presets")?;
-    }
-    put_text(line, " that it acknowledged\n")
-}
-
-/// Puts how often each field was known no more.
-fn put_lapses(line: &mut Vec<u8>, lapses: &[u32; FIELDS]) -> Result<(), AllocError> {
+/// Puts how often each field was known no more after a command.
+fn put_lapses(
+    line: &mut Vec<u8>,
+    called: Called<'_>,
+    lapses: &[u32; FIELDS],
+) -> Result<(), AllocError> {
+    put_text(line, "no longer known after ")?;
+    called.put(line)?;
     let lapsed = Field::ALL
         .iter()
         .filter(|field| lapses[**field as usize] > 0);
@@ -160,5 +204,5 @@ fn put_lapses(line: &mut Vec<u8>, lapses: &[u32; FIELDS]) -> Result<(), AllocErr
         put_word(line, field.name(), " ")?;
         put_count(line, "", u64::from(lapses[*field as usize]))?;
     }
-    put_text(line, "\n")
+    Ok(())
 }

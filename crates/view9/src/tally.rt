@@ -47,12 +47,19 @@ impl<'a> Tally<'a> {
         if self.counts.is_empty() {
             return Ok(());
         }
+        put_text(line, "... ")?;
+        self.put_counts(line)?;
+        put_text(line, "\n")
+    }
+
+    /// Puts how often each came, with commas between, and forgets them; nothing where there are none.
+    pub fn put_counts(&mut self, line: &mut Vec<u8>) -> Result<(), AllocError> {
         for (place, (query, count)) in self.counts.iter().enumerate() {
-            put_text(line, if place == 0 { "... " } else { ", " })?;
+            put_text(line, if place == 0 { "" } else { ", " })?;
             put_query(line, *query, *count)?;
         }
         self.counts.clear();
-        put_text(line, "\n")
+        Ok(())
     }
 }
 

@@ -10,14 +10,14 @@ use tc25::{Rate, TimeCode};
 const JUMP_S: u128 = 2;
 
 /// An exchange that a line names, by its last record.
-#[derive(Clone, Copy)]
-pub(crate) struct Place {
-    /// The number of the record.
-    pub(crate) record: u32,
+#[derive(Clone, Copy, Debug, PartialEq, Eq)]
+pub struct Place {
+    /// The number of the record, counted from 1.
+    pub record: u32,
     /// Its time, in microseconds.
-    pub(crate) time_us: u64,
+    pub time_us: u64,
     /// Whether it lies in the stretch that is shown.
-    pub(crate) is_shown: bool,
+    pub is_shown: bool,
 }
 
 /// A time that the deck answered.

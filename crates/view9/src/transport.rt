@@ -137,9 +137,8 @@ impl<'a> Followed<'a> {
         self.transport.mode.is_some() && self.response_us.is_none() && self.statuses > 0
     }
 
-    /// Puts its line: what came of it, how often which modes were shown, and the times.
+    /// Puts its text: what came of it, how often which modes were shown, and the times.
     pub(crate) fn put(&self, line: &mut Vec<u8>, shown: &[Shown]) -> Result<(), AllocError> {
-        self.place.put(line)?;
         self.transport.called.put(line)?;
         put_text(line, if self.is_local { " in local: " } else { ": " })?;
         match (self.transport.mode, self.response_us) {
@@ -147,8 +146,7 @@ impl<'a> Followed<'a> {
             (mode, _) => self.put_statuses(line, mode)?,
         }
         put_shown(line, shown)?;
-        put_track(line, &self.times)?;
-        put_text(line, "\n")
+        put_track(line, &self.times)
     }
 
     /// Puts when the mode was shown first.

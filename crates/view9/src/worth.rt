@@ -1,14 +1,12 @@
-//! What is worth looking at of what a deck did: so many lines are kept, and the rest is counted.
+//! What is worth looking at of what a deck did.
 
 use crate::decimal::put_seconds;
+use crate::motion_lines::MotionLines;
 use crate::track::{Place, Track};
-use crate::transport::{Followed, Shown, Transport};
+use crate::transport::{Followed, Transport};
 use deck9::{Mode, ModeSet};
-use report9::{TextBuffer, put_count, put_modes, put_text, put_word};
-use std::alloc::{AllocError, Global};
-
-/// How many are listed. The others are counted.
-const MOST_LISTED: u64 = 100;
+use report9::{put_count, put_modes, put_text, put_word};
+use std::alloc::AllocError;
 
 /// For how long a time stands still where that is worth looking at, in microseconds.
 const STILL_US: u64 = 1_000_000;
@@ -25,13 +23,6 @@ pub(crate) struct Showing {
     /// Those with what was answered since. That belongs to it only from the next status on that shows the same: until then the mode
     /// may have been another.
     pub(crate) ahead: Option<Track>,
-}
-
-/// What is worth looking at.
-#[derive(Drop)]
-pub(crate) struct Worth {
-    count: u64,
-    lines: Vec<u8>,
 }
 
 impl Showing {
@@ -69,142 +60,89 @@ impl Showing {
     }
 }
 
-impl Worth {
-    /// Nothing yet.
-    pub(crate) fn new(alloc: Global) -> Worth {
-        Worth {
-            count: 0,
-            lines: Vec::new(alloc),
-        }
+/// Weighs what was shown after this command.
+pub(crate) fn weigh(
+    told: &mut MotionLines,
+    showing: &Showing,
+    followed: Option<&Followed<'_>>,
+) -> Result<(), AllocError> {
+    let Some(track) = &showing.times else {
+        return Ok(());
+    };
+    if showing.is_just(Mode::Play) || showing.is_just(Mode::Rec) {
+        weigh_still(told, showing, track)?;
+        weigh_jumps(told, showing, track)?;
     }
+    if !track.runs() {
+        return Ok(());
+    }
+    if showing.stands() {
+        return tell_run(told, showing, track, None);
+    }
+    match followed {
+        Some(command) if is_against(command, showing, track) => {
+            tell_run(told, showing, track, followed)
+        }
+        _ => Ok(()),
+    }
+}
 
-    /// Counts one by the record that it names, if that is shown: whether its line is put, which then begins here.
-    fn begins(&mut self, place: Place) -> Result<bool, AllocError> {
-        if !place.is_shown {
-            return Ok(false);
-        }
-        self.count = self.count.saturating_add(1);
-        if self.count > MOST_LISTED {
-            return Ok(false);
-        }
-        put_text(&mut self.lines, "    ")?;
-        Ok(true)
+/// Weighs how long the time stood still.
+fn weigh_still(told: &mut MotionLines, showing: &Showing, track: &Track) -> Result<(), AllocError> {
+    let still = &track.still;
+    if track.still_us < STILL_US {
+        return Ok(());
     }
+    let text = &mut told.text;
+    put_word(text, still.name(), " stands still at ")?;
+    still.put(text)?;
+    put_text(text, " for ")?;
+    put_seconds(text, track.still_us)?;
+    put_text(text, " s")?;
+    put_while(text, showing)?;
+    told.end_line(still.place, true)
+}
 
-    /// Takes a command of which no status showed the mode.
-    pub(crate) fn take(
-        &mut self,
-        command: &Followed<'_>,
-        shown: &[Shown],
-    ) -> Result<(), AllocError> {
-        if self.begins(command.place)? {
-            command.put(&mut self.lines, shown)?;
-        }
-        Ok(())
+/// Weighs how often the time jumped.
+fn weigh_jumps(told: &mut MotionLines, showing: &Showing, track: &Track) -> Result<(), AllocError> {
+    let (from, to) = (&track.jump_from, &track.jump_to);
+    if track.jumps == 0 {
+        return Ok(());
     }
+    let text = &mut told.text;
+    put_word(text, to.name(), " jumps from ")?;
+    from.put(text)?;
+    put_text(text, " to ")?;
+    to.put(text)?;
+    put_text(text, " in ")?;
+    put_seconds(text, to.place.since(from.place))?;
+    put_text(text, " s")?;
+    if track.jumps > 1 {
+        put_count(text, ", the first of ", u64::from(track.jumps))?;
+        put_text(text, " jumps")?;
+    }
+    put_while(text, showing)?;
+    told.end_line(to.place, true)
+}
 
-    /// Weighs what was shown after this command.
-    pub(crate) fn weigh(
-        &mut self,
-        showing: &Showing,
-        followed: Option<&Followed<'_>>,
-    ) -> Result<(), AllocError> {
-        let Some(track) = &showing.times else {
-            return Ok(());
-        };
-        if showing.is_just(Mode::Play) || showing.is_just(Mode::Rec) {
-            self.weigh_still(showing, track)?;
-            self.weigh_jumps(showing, track)?;
-        }
-        if !track.runs() {
-            return Ok(());
-        }
-        if showing.stands() {
-            return self.take_run(showing, track, None);
-        }
-        match followed {
-            Some(command) if is_against(command, showing, track) => {
-                self.take_run(showing, track, followed)
-            }
-            _ => Ok(()),
-        }
+/// Tells of a time that runs, against a command where one is given.
+fn tell_run(
+    told: &mut MotionLines,
+    showing: &Showing,
+    track: &Track,
+    against: Option<&Followed<'_>>,
+) -> Result<(), AllocError> {
+    let text = &mut told.text;
+    put_word(text, track.name(), " runs")?;
+    if let Some(command) = against {
+        put_text(text, " against ")?;
+        command.transport.called.put(text)?;
+        put_count(text, " of record ", u64::from(command.place.record))?;
     }
-
-    /// Weighs how long the time stood still.
-    fn weigh_still(&mut self, showing: &Showing, track: &Track) -> Result<(), AllocError> {
-        let still = &track.still;
-        if track.still_us < STILL_US || !self.begins(still.place)? {
-            return Ok(());
-        }
-        let lines = &mut self.lines;
-        still.place.put(lines)?;
-        put_word(lines, still.name(), " stands still at ")?;
-        still.put(lines)?;
-        put_text(lines, " for ")?;
-        put_seconds(lines, track.still_us)?;
-        put_text(lines, " s")?;
-        put_while(lines, showing)
-    }
-
-    /// Weighs how often the time jumped.
-    fn weigh_jumps(&mut self, showing: &Showing, track: &Track) -> Result<(), AllocError> {
-        let (from, to) = (&track.jump_from, &track.jump_to);
-        if track.jumps == 0 || !self.begins(to.place)? {
-            return Ok(());
-        }
-        let lines = &mut self.lines;
-        to.place.put(lines)?;
-        put_word(lines, to.name(), " jumps from ")?;
-        from.put(lines)?;
-        put_text(lines, " to ")?;
-        to.put(lines)?;
-        put_text(lines, " in ")?;
-        put_seconds(lines, to.place.since(from.place))?;
-        put_text(lines, " s")?;
-        if track.jumps > 1 {
-            put_count(lines, ", the first of ", u64::from(track.jumps))?;
-            put_text(lines, " jumps")?;
-        }
-        put_while(lines, showing)
-    }
-
-    /// Takes a time that runs, against a command where one is given.
-    fn take_run(
-        &mut self,
-        showing: &Showing,
-        track: &Track,
-        against: Option<&Followed<'_>>,
-    ) -> Result<(), AllocError> {
-        if !self.begins(showing.from)? {
-            return Ok(());
-        }
-        let lines = &mut self.lines;
-        showing.from.put(lines)?;
-        put_word(lines, track.name(), " runs")?;
-        if let Some(command) = against {
-            put_text(lines, " against ")?;
-            command.transport.called.put(lines)?;
-            put_count(lines, " of record ", u64::from(command.place.record))?;
-        }
-        put_text(lines, ", ")?;
-        track.put(lines)?;
-        put_while(lines, showing)
-    }
-
-    /// Puts how many there are, and their lines.
-    pub(crate) fn put(&self, line: &mut Vec<u8>) -> Result<(), AllocError> {
-        if self.count == 0 {
-            return put_text(line, "worth looking at: nothing\n");
-        }
-        put_count(line, "worth looking at: ", self.count)?;
-        put_text(line, "\n")?;
-        line.put(self.lines.as_slice())?;
-        if self.count > MOST_LISTED {
-            put_count(line, "    ... and ", self.count - MOST_LISTED)?;
-            put_text(line, " more\n")?;
-        }
-        Ok(())
-    }
+    put_text(text, ", ")?;
+    track.put(text)?;
+    put_while(text, showing)?;
+    told.end_line(showing.from, true)
 }
 
 /// Whether the command's mode is shown, and the time runs against its way.
@@ -213,9 +151,9 @@ fn is_against(command: &Followed<'_>, showing: &Showing, track: &Track) -> bool 
     showing.is_asked_by(transport) && transport.way.is_against(track.moved)
 }
 
-/// Puts what is shown meanwhile, and ends the line.
-fn put_while(lines: &mut Vec<u8>, showing: &Showing) -> Result<(), AllocError> {
-    put_text(lines, ", while ")?;
-    put_modes(lines, showing.modes)?;
-    put_text(lines, " is shown\n")
+/// Puts what is shown meanwhile.
+fn put_while(text: &mut Vec<u8>, showing: &Showing) -> Result<(), AllocError> {
+    put_text(text, ", while ")?;
+    put_modes(text, showing.modes)?;
+    put_text(text, " is shown")
 }

@@ -25,7 +25,7 @@ use Rattle.words9.specs.declared.task.Asked.{Asked}
 use Rattle.words9.specs.declared.task.Drawing.{Drawing}
 use Rattle.words9.specs.declared.task.Report.{Report}
 use Rattle.words9.specs.declared.task.Made.TheVariants as made
-use Rattle.words9.specs.declared.task.Report.TheVariants.{Clock, Info, JsonRun, Made, Parts, Picture, Run, ToBreak, Try}
+use Rattle.words9.specs.declared.task.Report.TheVariants.{Clock, Info, JsonRun, Made, Page, Parts, Picture, Run, ToBreak, Try}
 use Rattle.words9.specs.declared.task.Task.{Task}
 use Rattle.report9.specs.declared.time_form.TimeForm.{TimeForm}
 use Rattle.report9.specs.declared.time_form.TimeForm.TheVariants as form
@@ -123,6 +123,7 @@ name_of verb.Clock = codes "clock"
 name_of verb.Info = codes "info"
 name_of verb.Try = codes "try"
 name_of verb.Picture = codes "picture"
+name_of verb.Page = codes "page"
 
 -- what each subcommand has but `clock`, `info` and `try`: the word of its verb, and then the file and the options of the panel, of the capture's
 -- beginning, of the rate and of the deck's sheet
@@ -170,6 +171,7 @@ app_for names verb.Clock = clock_app
 app_for names verb.Info = info_app_for names
 app_for names verb.Try = try_app_for names
 app_for names verb.Picture = with_picture_rules (with_all_rules (plain_app_for names verb.Picture))
+app_for names verb.Page = with_stretch_rules (with_all_rules (with_bytes_rule (plain_app_for names verb.Page)))
 
 -- the program, which wants a subcommand, and has a version; its own name is not among the words
 abbrev pub top : App
@@ -186,7 +188,7 @@ with_verb names app verb = with_subcommand app (app_for names verb).top
 abbrev pub program : RateNames → App
 program names =
     fold (with_verb names) top
-    (verb.Check ∷ verb.Explain ∷ verb.Run ∷ verb.Why ∷ verb.Digest ∷ verb.Delays ∷ verb.Motion ∷ verb.Json ∷ verb.JsonCheck ∷ verb.JsonExplain ∷ verb.JsonRun ∷ verb.JsonWhy ∷ verb.Clock ∷ verb.Info ∷ verb.Try ∷ verb.Picture ∷ [])
+    (verb.Check ∷ verb.Explain ∷ verb.Run ∷ verb.Why ∷ verb.Digest ∷ verb.Delays ∷ verb.Motion ∷ verb.Json ∷ verb.JsonCheck ∷ verb.JsonExplain ∷ verb.JsonRun ∷ verb.JsonWhy ∷ verb.Clock ∷ verb.Info ∷ verb.Try ∷ verb.Picture ∷ verb.Page ∷ [])
 
 -- a report that `json` can be asked for
 abbrev pub is_asked : Text → Bool
@@ -244,6 +246,7 @@ report_of verb.Clock all bytes seconds = Clock (form_of seconds)
 report_of verb.Info all bytes seconds = Info
 report_of verb.Try all bytes seconds = Try (extent_of all)
 report_of verb.Picture all bytes seconds = Picture (extent_of all)
+report_of verb.Page all bytes seconds = Page
 
 -- with which record the judging begins, where the words say `--sync` or not
 abbrev pub beginning_of : Bool → Beginning

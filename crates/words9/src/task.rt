@@ -44,6 +44,8 @@ pub enum Verb {
     Try,
     /// Draws the record that breaks a rule: `picture`.
     Picture,
+    /// Makes a page of the whole session: `page`.
+    Page,
 }
 
 /// What is made of the events of a capture, beside the program's own reports.
@@ -81,6 +83,8 @@ pub enum Report {
     Try(Extent),
     /// A picture of a break, of a judging that goes so far.
     Picture(Extent),
+    /// A page of the whole session. The judging goes on after each break.
+    Page,
 }
 
 /// What is asked of a picture.

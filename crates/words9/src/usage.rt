@@ -53,7 +53,8 @@ fn whole<'a>(alloc: Global, rates: &'a [&'a str]) -> Result<Command<'a>, AllocEr
     let command = with_verb(alloc, command, Verb::Clock, rates)?;
     let command = with_verb(alloc, command, Verb::Info, rates)?;
     let command = with_verb(alloc, command, Verb::Try, rates)?;
-    with_verb(alloc, command, Verb::Picture, rates)
+    let command = with_verb(alloc, command, Verb::Picture, rates)?;
+    with_verb(alloc, command, Verb::Page, rates)
 }
 
 /// A command with the subcommand of a verb.
@@ -103,10 +104,11 @@ fn subcommand<'a>(
         Verb::JsonCheck | Verb::JsonWhy => with_stretch(alloc, with_all(alloc, command)?),
         Verb::Picture => with_picture(alloc, with_all(alloc, command)?),
         Verb::Explain => with_all(alloc, with_bytes(alloc, command)?),
-        Verb::Digest | Verb::Delays | Verb::Motion | Verb::Json | Verb::JsonExplain => {
-            let command = with_all(alloc, with_bytes(alloc, command)?)?;
-            with_stretch(alloc, command)
-        }
+        Verb::Digest | Verb::Delays | Verb::Motion | Verb::Json | Verb::JsonExplain | Verb::Page =>
+            {
+                let command = with_all(alloc, with_bytes(alloc, command)?)?;
+                with_stretch(alloc, command)
+            }
     }
 }
 
@@ -368,6 +370,7 @@ fn name_of<'a>(verb: Verb) -> &'a str
         Verb::Info => "info",
         Verb::Try => "try",
         Verb::Picture => "picture",
+        Verb::Page => "page",
     }
 }
 
@@ -400,5 +403,6 @@ fn about<'a>(verb: Verb) -> &'a str {
             "Judge the capture at each frame rate, without hands and with, and with a sheet: a line for each",
         Verb::Picture =>
             "Draw the record that breaks a rule, or the replies that contradict one another, as an SVG",
+        Verb::Page => "Make one page of the whole session (HTML), to look at and to send on",
     }
 }

@@ -220,6 +220,7 @@ fn report_of(verb: Verb, all: bool, bytes: bool, seconds: bool) -> Report
         Verb::Info => Report::Info,
         Verb::Try => Report::Try(extent_of(all)),
         Verb::Picture => Report::Picture(extent_of(all)),
+        Verb::Page => Report::Page,
     }
 }
 
@@ -290,6 +291,7 @@ fn verb_of(name: &str) -> Option<Verb>
         "info" => Some(Verb::Info),
         "try" => Some(Verb::Try),
         "picture" => Some(Verb::Picture),
+        "page" => Some(Verb::Page),
         _ => None,
     }
 }

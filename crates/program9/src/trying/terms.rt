@@ -1,8 +1,9 @@
 //! What a capture is asked with.
 ghost use Rattle.std.specs.Prelude.{◌≡◌, ◌++◌, OnOk};
-ghost use Rattle.program9.specs.Trying.{rate_text, words_of};
+ghost use Rattle.program9.specs.Trying.{words_of};
 
 use deck9::Hands;
+use info9::rate_word;
 use report9::put_text;
 use std::alloc::AllocError;
 use tc25::Rate;
@@ -24,7 +25,7 @@ impl Terms {
         ensures { OnOk result (text.new.items ≡ text.old.items ++ words_of self.now) }
     {
         put_text(text, "--rate ")?;
-        put_text(text, rate_text(self.rate))?;
+        put_text(text, rate_word(self.rate))?;
         if self.has_sheet {
             put_text(text, " --deck")?;
         }
@@ -37,17 +38,5 @@ impl Terms {
     /// How many of these the answer needs: the sheet, and a hand.
     pub(crate) fn needs(&self) -> u8 {
         u8::from(self.has_sheet) + u8::from(self.hands == Hands::Allowed)
-    }
-}
-
-/// The word of a rate on the command line.
-fn rate_text<'a>(rate: Rate) -> &'a str
-    ensures { result.now ≡ rate_text rate }
-{
-    match rate {
-        Rate::Fps24 => "24",
-        Rate::Fps25 => "25",
-        Rate::Fps30 => "30",
-        Rate::DropFrame => "29.97df",
     }
 }

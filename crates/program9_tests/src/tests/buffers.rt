@@ -3,7 +3,7 @@
 use crate::tests::same;
 use crate::tests::writers::{Narrow, took, took_to_the_end};
 use deck9::{Hands, Profile};
-use program9::{Buffered, Job, Message, Outcome, judge_and_flush};
+use program9::{Buffered, Job, Message, Named, Outcome, judge_and_flush};
 use report9::{Beginning, Detail, Stretch, View};
 use std::alloc::{AllocError, Global};
 use std::io::Write;
@@ -37,7 +37,12 @@ fn judged(alloc: Global, text: &str, report: Report, writer: Narrow) -> Option<(
         line_buffered: false,
     };
     let profile = Profile::of(Hands::None);
-    let end = judge_and_flush(alloc, text.as_bytes(), &mut out, Job { asked, profile });
+    let named = Named {
+        file: None,
+        sheet: None,
+    };
+    let job = Job { asked, profile };
+    let end = judge_and_flush(alloc, text.as_bytes(), &mut out, job, &named);
     Some((end, out.into_writer()))
 }
 

@@ -22,4 +22,5 @@ returns c =
     let with_Clock = c.in_ok-command-13.ensures ∙ ap (λ app. with_verb names app verb.Clock) with_JsonWhy in
     let with_Info = c.in_ok-command-14.ensures ∙ ap (λ app. with_verb names app verb.Info) with_Clock in
     let with_Try = c.in_ok-command-15.ensures ∙ ap (λ app. with_verb names app verb.Try) with_Info in
-    IfOk-weaker c.with_verb-16.result _ _ (λ command is. is ∙ ap (λ app. with_verb names app verb.Picture) with_Try) c.with_verb-16.ensures
+    let with_Picture = c.in_ok-command-16.ensures ∙ ap (λ app. with_verb names app verb.Picture) with_Try in
+    IfOk-weaker c.with_verb-17.result _ _ (λ command is. is ∙ ap (λ app. with_verb names app verb.Page) with_Picture) c.with_verb-17.ensures

@@ -1,0 +1,31 @@
+//! How a command of the program is asked again of the capture that the page shows.
+
+use picture9::{Done, Markup};
+
+/// What stands behind a command of the program, as a shell takes it.
+#[derive(Clone, Copy)]
+pub(crate) struct Again<'a> {
+    /// The options with which the page was asked for; nothing where it was asked for without.
+    pub(crate) options: &'a [u8],
+    /// The capture's name; nothing where it came on the standard input.
+    pub(crate) file: &'a [u8],
+}
+
+impl Again<'_> {
+    /// Puts a command, with the same options and of the same capture.
+    pub(crate) fn put(&self, html: &mut Markup, subcommand: &'static str) -> Done {
+        html.put_mark("ninecheck ")?;
+        html.put_mark(subcommand)?;
+        put_word(html, self.options)?;
+        put_word(html, self.file)
+    }
+}
+
+/// Puts a blank and words, where there are some.
+fn put_word(html: &mut Markup, words: &[u8]) -> Done {
+    if words.is_empty() {
+        return Ok(());
+    }
+    html.put_mark(" ")?;
+    html.put_foreign(words)
+}

@@ -1,0 +1,166 @@
+//! The axis of time: round times of the clock, as few as can be read.
+
+use crate::html::put_padded;
+use crate::span::Span;
+use picture9::{Done, Markup};
+
+/// How many ticks there are at most.
+const MOST_TICKS: u64 = 11;
+
+/// The steps between ticks, in microseconds.
+const STEPS_US: [u64; 36] = [
+    1,
+    2,
+    5,
+    10,
+    20,
+    50,
+    100,
+    200,
+    500,
+    1_000,
+    2_000,
+    5_000,
+    10_000,
+    20_000,
+    50_000,
+    100_000,
+    200_000,
+    500_000,
+    1_000_000,
+    2_000_000,
+    5_000_000,
+    10_000_000,
+    15_000_000,
+    30_000_000,
+    60_000_000,
+    120_000_000,
+    300_000_000,
+    600_000_000,
+    900_000_000,
+    1_800_000_000,
+    3_600_000_000,
+    7_200_000_000,
+    14_400_000_000,
+    21_600_000_000,
+    43_200_000_000,
+    86_400_000_000,
+];
+
+/// How times are written at the ticks.
+#[derive(Clone, Copy, Debug, PartialEq, Eq)]
+pub(crate) enum Clock {
+    Seconds,
+    Minutes,
+    Hours,
+}
+
+impl Clock {
+    /// What it is called.
+    pub(crate) fn name(self) -> &'static str {
+        match self {
+            Clock::Seconds => "seconds",
+            Clock::Minutes => "minutes:seconds",
+            Clock::Hours => "hours:minutes:seconds",
+        }
+    }
+}
+
+/// The ticks of the axis.
+#[derive(Clone, Copy, Debug, PartialEq, Eq)]
+pub(crate) struct Axis {
+    span: Span,
+    /// How far the ticks are apart, in microseconds.
+    step_us: u64,
+    pub(crate) clock: Clock,
+}
+
+impl Axis {
+    /// The axis of a session: the smallest step that has few enough ticks.
+    pub(crate) fn of(span: Span) -> Axis {
+        let mut step_us = STEPS_US[35];
+        for step in STEPS_US.iter().rev() {
+            if ticks_by(span, *step) <= MOST_TICKS {
+                step_us = *step;
+            }
+        }
+        for _ in 0..64 {
+            if ticks_by(span, step_us) > MOST_TICKS {
+                step_us = step_us.saturating_mul(2);
+            }
+        }
+        let clock = match span.to_us {
+            0..60_000_000 => Clock::Seconds,
+            60_000_000..3_600_000_000 => Clock::Minutes,
+            _ => Clock::Hours,
+        };
+        Axis {
+            span,
+            step_us,
+            clock,
+        }
+    }
+
+    /// How many ticks there are.
+    pub(crate) fn ticks(self) -> u64 {
+        ticks_by(self.span, self.step_us)
+    }
+
+    /// The time of a tick, counted from 0, on the capture's clock in microseconds.
+    pub(crate) fn tick_us(self, number: u64) -> u64 {
+        first_tick(self.span, self.step_us).saturating_add(number.saturating_mul(self.step_us))
+    }
+
+    /// Puts the time of a tick.
+    pub(crate) fn put_tick(self, html: &mut Markup, us: u64) -> Done {
+        let seconds = us / 1_000_000;
+        match self.clock {
+            Clock::Seconds => html.put_whole("", seconds)?,
+            Clock::Minutes => html.put_whole("", seconds / 60)?,
+            Clock::Hours => {
+                html.put_whole("", seconds / 3_600)?;
+                html.put_mark(":")?;
+                put_padded(html, seconds / 60 % 60, 2)?;
+            }
+        }
+        if self.clock != Clock::Seconds {
+            html.put_mark(":")?;
+            put_padded(html, seconds % 60, 2)?;
+        }
+        self.put_decimals(html, us)
+    }
+
+    /// Puts as many decimals of a tick's seconds as the step has.
+    fn put_decimals(self, html: &mut Markup, us: u64) -> Done {
+        let (places, unit_us) = match self.step_us {
+            0..10 => (6, 1),
+            10..100 => (5, 10),
+            100..1_000 => (4, 100),
+            1_000..10_000 => (3, 1_000),
+            10_000..100_000 => (2, 10_000),
+            100_000..1_000_000 => (1, 100_000),
+            _ => return Ok(()),
+        };
+        html.put_mark(".")?;
+        put_padded(html, us % 1_000_000 / unit_us, places)
+    }
+}
+
+/// The first tick in a session with this step.
+fn first_tick(span: Span, step_us: u64) -> u64 {
+    span.from_us
+        .div_ceil(step_us.max(1))
+        .saturating_mul(step_us)
+}
+
+/// How many ticks a session has with this step.
+fn ticks_by(span: Span, step_us: u64) -> u64 {
+    let first_us = first_tick(span, step_us);
+    if first_us > span.to_us {
+        return 0;
+    }
+    (span.to_us - first_us)
+        .checked_div(step_us)
+        .unwrap_or(0)
+        .saturating_add(1)
+}

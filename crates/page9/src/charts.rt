@@ -1,0 +1,293 @@
+//! The charts of traffic and of the delays of replies: steps over bins of time.
+
+use crate::bins::{Bin, DrawnBins, LateDot, MOST_DRAWN_US};
+use crate::html::{begin_path, end_path, put_clock, put_fixed, put_thousands};
+use crate::mark_rows::{put_mark_html, put_more};
+use crate::rates::{Rate, put_rate, round_above};
+use crate::session::{begin_lane, begin_lane_chart};
+use crate::span::{Span, Window};
+use block9::REPLY_LIMIT_US;
+use picture9::{Done, Markup};
+use std::alloc::{AllocError, Global};
+
+/// How tall the chart of traffic is, in pixels.
+const TRAFFIC_TALL: u64 = 56;
+
+/// How tall the chart of delays is, in pixels.
+const DELAYS_TALL: u64 = 130;
+
+/// Which delay of a bin a line tells.
+#[derive(Clone, Copy)]
+enum Told {
+    Greatest,
+    Middle,
+}
+
+/// The heights of a line in steps, in tenths of a pixel from above: one for each bin that has one.
+#[derive(Drop)]
+struct Steps {
+    heights: Vec<Option<u64>>,
+}
+
+/// Puts how many exchanges there were a second.
+pub(crate) fn put_traffic(html: &mut Markup, span: Span, bins: &DrawnBins) -> Done {
+    let greatest = greatest_rate(bins, span.lasts_us());
+    let most = round_above(greatest.saturating_mul(11) / 10);
+    let steps = traffic_steps(html.alloc(), bins, span.lasts_us(), most)?;
+    begin_lane(html, "")?;
+    html.put_mark("<b>Traffic</b> <span>exchanges a second in bins of ")?;
+    put_width(html, bins.width_us)?;
+    html.put_mark("</span>")?;
+    begin_lane_chart(html, TRAFFIC_TALL)?;
+    html.put_mark("Traffic: exchanges a second over time, at most ")?;
+    put_rate(html, greatest)?;
+    html.put_mark("</title><use href=\"#g\"/>\n")?;
+    put_steps(
+        html,
+        span,
+        bins.width_us,
+        &steps,
+        "traf",
+        Some(TRAFFIC_TALL),
+    )?;
+    put_steps(html, span, bins.width_us, &steps, "tline", None)?;
+    html.put_mark("</svg></div>\n<div class=\"scale\"><span class=\"top\">")?;
+    put_rate(html, most)?;
+    html.put_mark("</span><span class=\"foot\">0</span></div></div>\n")
+}
+
+/// Puts how wide bins are.
+fn put_width(html: &mut Markup, width_us: u64) -> Done {
+    if width_us < 1_000_000 {
+        html.put_whole("", width_us / 1_000)?;
+        return html.put_mark(" ms");
+    }
+    put_thousands(html, width_us / 1_000_000)?;
+    html.put_mark(" s")
+}
+
+/// How many exchanges a second there are in a bin.
+fn rate_in(bins: &DrawnBins, place: usize, bin: &Bin, lasts_us: u64) -> Rate {
+    let covered_us = u128::from(bins.covered_us(place, lasts_us));
+    u128::from(bin.exchanges)
+        .saturating_mul(1_000_000_000_000_000)
+        .checked_div(covered_us)
+        .unwrap_or(0)
+}
+
+/// The greatest number of exchanges a second.
+fn greatest_rate(bins: &DrawnBins, lasts_us: u64) -> Rate {
+    let mut greatest = 0;
+    for (place, bin) in bins.bins.as_slice().iter().enumerate() {
+        greatest = rate_in(bins, place, bin, lasts_us).max(greatest);
+    }
+    greatest
+}
+
+/// The heights of the traffic, in a chart whose top is so many exchanges a second.
+fn traffic_steps(
+    alloc: Global,
+    bins: &DrawnBins,
+    lasts_us: u64,
+    most: Rate,
+) -> Result<Steps, AllocError> {
+    let mut heights = Vec::new(alloc);
+    push_traffic(&mut heights, bins, lasts_us, most)?;
+    Ok(Steps { heights })
+}
+
+/// Pushes the heights of the traffic.
+fn push_traffic(
+    heights: &mut Vec<Option<u64>>,
+    bins: &DrawnBins,
+    lasts_us: u64,
+    most: Rate,
+) -> Done {
+    for (place, bin) in bins.bins.as_slice().iter().enumerate() {
+        let below = most.saturating_sub(rate_in(bins, place, bin, lasts_us));
+        let height = below
+            .saturating_mul(u128::from(TRAFFIC_TALL) * 10)
+            .saturating_add(most / 2)
+            .checked_div(most)
+            .unwrap_or(0);
+        heights.push(Some(u64::try_from(height).unwrap_or(0)))?;
+    }
+    Ok(())
+}
+
+/// Puts the delays of replies: the greatest and the middle of each bin, and a dot for its slowest late reply.
+pub(crate) fn put_delay_lane(
+    html: &mut Markup,
+    span: Span,
+    window: Window,
+    bins: &DrawnBins,
+) -> Done {
+    let has_late = bins.bins.as_slice().iter().any(|bin| bin.slowest.is_some());
+    begin_lane(html, "")?;
+    html.put_mark(
+        "<b>Reply delay</b> <span>&micro;s: <span class=\"of-great\">greatest</span> and \
+        <span class=\"of-mid\">middle</span> in bins of ",
+    )?;
+    put_width(html, bins.width_us)?;
+    html.put_mark(if has_late {
+        ", <span class=\"bad\">late replies</span></span>"
+    } else {
+        "</span>"
+    })?;
+    begin_lane_chart(html, DELAYS_TALL)?;
+    html.put_mark("Reply delay over time: the greatest and the middle of each bin</title>")?;
+    html.put_mark("<desc>From 0 to 14,000 microseconds, with the limit of ")?;
+    put_thousands(html, REPLY_LIMIT_US)?;
+    html.put_mark(". The numbers stand under Delays by command.</desc><use href=\"#g\"/>\n")?;
+    put_delay_lines(html, span, bins)?;
+    html.put_mark("</svg>\n")?;
+    put_dots(html, span, window, bins)?;
+    html.put_mark(
+        "</div><div class=\"scale\"><span class=\"top\">14,000</span><span class=\"at-limit\">",
+    )?;
+    put_thousands(html, REPLY_LIMIT_US)?;
+    html.put_mark(" limit</span><span class=\"foot\">0</span></div></div>\n")
+}
+
+/// Puts the lines of delays, and the limit.
+fn put_delay_lines(html: &mut Markup, span: Span, bins: &DrawnBins) -> Done {
+    let greatest = delay_steps(html.alloc(), bins, Told::Greatest)?;
+    let middle = delay_steps(html.alloc(), bins, Told::Middle)?;
+    put_steps(
+        html,
+        span,
+        bins.width_us,
+        &greatest,
+        "great",
+        Some(DELAYS_TALL),
+    )?;
+    put_steps(html, span, bins.width_us, &greatest, "gline", None)?;
+    put_steps(html, span, bins.width_us, &middle, "mid", None)?;
+    begin_path(html, "limit")?;
+    html.put_mark("M0 ")?;
+    put_fixed(html, delay_y(REPLY_LIMIT_US), 1)?;
+    html.put_mark("H1000")?;
+    end_path(html)
+}
+
+/// The heights of delays: none where a bin has no reply.
+fn delay_steps(alloc: Global, bins: &DrawnBins, told: Told) -> Result<Steps, AllocError> {
+    let mut heights = Vec::new(alloc);
+    push_delays(&mut heights, bins, told)?;
+    Ok(Steps { heights })
+}
+
+/// Pushes the heights of delays.
+fn push_delays(heights: &mut Vec<Option<u64>>, bins: &DrawnBins, told: Told) -> Done {
+    for bin in bins.bins.as_slice() {
+        let delay_us = match told {
+            Told::Greatest => bin.greatest_us,
+            Told::Middle => bin.middle_us(),
+        };
+        let height = match bin.exchanges {
+            0 => None,
+            _ => Some(delay_y(delay_us)),
+        };
+        heights.push(height)?;
+    }
+    Ok(())
+}
+
+/// How far below the top a delay stands, in tenths of a pixel.
+fn delay_y(delay_us: u64) -> u64 {
+    let above_us = MOST_DRAWN_US - delay_us.min(MOST_DRAWN_US);
+    (above_us * DELAYS_TALL * 10 + MOST_DRAWN_US / 2) / MOST_DRAWN_US
+}
+
+/// Puts a line in steps over the bins that have a height, or where there is a foot the area between.
+fn put_steps(
+    html: &mut Markup,
+    span: Span,
+    width_us: u64,
+    steps: &Steps,
+    look: &'static str,
+    foot: Option<u64>,
+) -> Done {
+    begin_path(html, look)?;
+    let mut is_open = false;
+    let mut from_us = 0u64;
+    for height in steps.heights.as_slice() {
+        if let Some(height) = *height {
+            begin_step(html, span, from_us, is_open, foot)?;
+            put_fixed(html, height, 1)?;
+        } else if is_open {
+            end_step(html, span, from_us, foot)?;
+        }
+        is_open = height.is_some();
+        from_us = from_us.saturating_add(width_us);
+    }
+    if is_open {
+        end_step(html, span, span.lasts_us(), foot)?;
+    }
+    end_path(html)
+}
+
+/// Begins a step at a bin's beginning: goes on to it from the one before, where one is open.
+fn begin_step(
+    html: &mut Markup,
+    span: Span,
+    from_us: u64,
+    is_open: bool,
+    foot: Option<u64>,
+) -> Done {
+    html.put_mark(if is_open { "H" } else { "M" })?;
+    span.put_x(html, from_us)?;
+    match (is_open, foot) {
+        (false, Some(foot)) => {
+            html.put_whole(" ", foot)?;
+            html.put_mark("V")
+        }
+        (false, None) => html.put_mark(" "),
+        (true, _) => html.put_mark("V"),
+    }
+}
+
+/// Ends a step, and closes the area.
+fn end_step(html: &mut Markup, span: Span, to_us: u64, foot: Option<u64>) -> Done {
+    html.put_mark("H")?;
+    span.put_x(html, to_us)?;
+    if let Some(foot) = foot {
+        html.put_whole("V", foot)?;
+        html.put_mark("Z")?;
+    }
+    Ok(())
+}
+
+/// Puts a dot for the slowest late reply of each bin.
+fn put_dots(html: &mut Markup, span: Span, window: Window, bins: &DrawnBins) -> Done {
+    for bin in bins.bins.as_slice() {
+        if let Some(dot) = &bin.slowest {
+            put_dot(html, span, window, dot, bin.late_replies)?;
+        }
+    }
+    Ok(())
+}
+
+/// Puts the dot of the slowest of so many late replies.
+fn put_dot(html: &mut Markup, span: Span, window: Window, dot: &LateDot, replies: u32) -> Done {
+    let mut words = Markup::new(html.alloc());
+    words.put_mark("Late reply, ")?;
+    put_thousands(&mut words, dot.delay_us)?;
+    words.put_mark(" &micro;s, record ")?;
+    put_thousands(&mut words, u64::from(dot.at))?;
+    words.put_mark(", ")?;
+    put_clock(&mut words, dot.time_us)?;
+    put_more(&mut words, u64::from(replies).saturating_sub(1))?;
+    let mut style = Markup::new(html.alloc());
+    style.put_mark("left:")?;
+    span.put_percent(&mut style, window.since(dot.time_us))?;
+    style.put_mark(";top:")?;
+    put_fixed(&mut style, delay_y(dot.delay_us), 1)?;
+    style.put_mark("px")?;
+    let look = if dot.delay_us > MOST_DRAWN_US {
+        "over"
+    } else {
+        "dot"
+    };
+    put_mark_html(html, dot.id, look, &style, &words)
+}

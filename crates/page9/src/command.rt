@@ -1,0 +1,93 @@
+//! The words with which the page was asked for, as a shell takes them again.
+
+use crate::page::PageOf;
+use deck9::{Hands, Profile};
+use info9::rate_word;
+use picture9::Done;
+use report9::{Beginning, TextBuffer, put_text};
+use std::alloc::{AllocError, Global};
+use tc25::Rate;
+use view9::put_seconds;
+
+/// The words behind a command of the program.
+#[derive(Drop)]
+pub(crate) struct Words {
+    /// The options.
+    pub(crate) options: Vec<u8>,
+    /// The capture's name; nothing where it came on the standard input.
+    pub(crate) file: Vec<u8>,
+}
+
+impl Words {
+    /// The words of a page of a deck that is taken for this.
+    pub(crate) fn of(
+        alloc: Global,
+        page: &PageOf<'_>,
+        profile: &Profile,
+    ) -> Result<Words, AllocError> {
+        let mut words = Words {
+            options: Vec::new(alloc),
+            file: Vec::new(alloc),
+        };
+        put_options(&mut words.options, page, profile)?;
+        if let Some(file) = page.file {
+            put_name(&mut words.file, file)?;
+        }
+        Ok(words)
+    }
+}
+
+/// Puts the options, with a blank between them.
+fn put_options(options: &mut Vec<u8>, page: &PageOf<'_>, profile: &Profile) -> Done {
+    if profile.hands == Hands::Allowed {
+        put_option(options, "--hands")?;
+    }
+    if page.beginning != Beginning::FirstRecord {
+        put_option(options, "--sync")?;
+    }
+    if profile.rate != Rate::Fps25 {
+        put_option(options, "--rate ")?;
+        put_text(options, rate_word(profile.rate))?;
+    }
+    if let Some(sheet) = page.sheet {
+        put_option(options, "--deck ")?;
+        put_name(options, sheet)?;
+    }
+    if page.stretch.from_us > 0 {
+        put_option(options, "--from ")?;
+        put_seconds(options, page.stretch.from_us)?;
+    }
+    if let Some(to_us) = page.stretch.to_us {
+        put_option(options, "--to ")?;
+        put_seconds(options, to_us)?;
+    }
+    Ok(())
+}
+
+/// Puts an option behind those before.
+fn put_option(options: &mut Vec<u8>, option: &str) -> Done {
+    if !options.is_empty() {
+        put_text(options, " ")?;
+    }
+    put_text(options, option)
+}
+
+/// Puts a name as a shell takes it: in quotes where it would take a part of it otherwise.
+fn put_name(words: &mut Vec<u8>, name: &[u8]) -> Done {
+    if !name.is_empty() && name.iter().all(|byte| is_plain(*byte)) {
+        return words.put(name);
+    }
+    put_text(words, "'")?;
+    for byte in name {
+        match byte {
+            b'\'' => put_text(words, "'\\''")?,
+            byte => words.push(*byte)?,
+        }
+    }
+    put_text(words, "'")
+}
+
+/// Whether a shell takes a byte of a word as it stands.
+fn is_plain(byte: u8) -> bool {
+    byte.is_ascii_alphanumeric() || b"_.,/+:=@%-".contains(&byte)
+}

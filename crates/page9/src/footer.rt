@@ -1,0 +1,34 @@
+//! The end of the page: the totals, and what the page was made of.
+
+use crate::again::Again;
+use crate::cksum::checksum;
+use crate::html::put_counted;
+use crate::page::PageOf;
+use picture9::{Done, Markup};
+use report9::{Totals, put_totals_line};
+
+/// Puts it.
+pub(crate) fn put_footer(
+    html: &mut Markup,
+    page: &PageOf<'_>,
+    totals: &Totals,
+    again: &Again<'_>,
+) -> Done {
+    html.put_mark("<footer>\n<p><code>")?;
+    let mut line = Vec::new(html.alloc());
+    put_totals_line(&mut line, totals)?;
+    html.put_foreign(line.as_slice().strip_suffix(b"\n").unwrap_or(&[]))?;
+    html.put_mark("</code></p>\n<p>Made by <code>")?;
+    again.put(html, "page")?;
+    html.put_mark("</code>, ")?;
+    html.put_foreign(page.version.strip_suffix(b"\n").unwrap_or(&[]))?;
+    html.put_mark(", from a capture of ")?;
+    put_counted(html, page.text.len() as u64, "byte", "bytes")?;
+    html.put_whole(
+        " with the <code>cksum</code> ",
+        u64::from(checksum(page.text)),
+    )?;
+    html.put_mark(
+        ". The page holds no script and loads nothing.</p>\n</footer>\n</main>\n</body>\n</html>\n",
+    )
+}

@@ -1,0 +1,200 @@
+//! The breaks over time: for each reason where its breaks are.
+
+use crate::html::BreakId;
+use crate::span::Window;
+use block9::Reason;
+use picture9::Done;
+use std::alloc::{AllocError, Global};
+
+/// How many breaks of one reason are marked one by one, with links.
+pub(crate) const MOST_LINKS: u32 = 300;
+
+/// How many breaks have a line through the lanes.
+const MOST_HAIRLINES: usize = 60;
+
+/// How many marks without links may be kept before those that lie close by are left out.
+const MANY: usize = 10_000;
+
+/// A break that is marked.
+#[derive(Clone, Copy)]
+pub(crate) struct Mark {
+    /// Its time since the beginning, in microseconds.
+    pub(crate) since_us: u64,
+    /// Its time on the capture's clock.
+    pub(crate) time_us: u64,
+    /// The number of its record.
+    pub(crate) at: u32,
+    /// Where it is listed.
+    pub(crate) id: Option<BreakId>,
+}
+
+/// The breaks of one reason.
+#[derive(Drop)]
+pub(crate) struct Row {
+    pub(crate) reason: Reason,
+    /// How many there are.
+    pub(crate) count: u32,
+    /// The first of them.
+    marks: Vec<Mark>,
+    /// When they are, in microseconds since the beginning, as far as that can be told apart.
+    times_us: Vec<u64>,
+}
+
+/// The replies of one contradiction, in microseconds since the beginning.
+#[derive(Clone, Copy)]
+pub(crate) struct Contradiction {
+    /// The first of them.
+    pub(crate) from_us: u64,
+    /// The break.
+    pub(crate) to_us: u64,
+}
+
+/// All breaks over time.
+#[derive(Drop)]
+pub(crate) struct Marks {
+    alloc: Global,
+    window: Window,
+    rows: Vec<Row>,
+    /// The first breaks, in microseconds since the beginning.
+    hairlines_us: Vec<u64>,
+    breaks: u32,
+    /// The lines of contradictions.
+    pub(crate) contradictions: Vec<Contradiction>,
+    /// The replies of contradictions, in microseconds since the beginning.
+    pub(crate) circles_us: Vec<u64>,
+}
+
+impl Marks {
+    /// None yet.
+    pub(crate) fn new(alloc: Global, window: Window) -> Marks {
+        Marks {
+            alloc,
+            window,
+            rows: Vec::new(alloc),
+            hairlines_us: Vec::new(alloc),
+            breaks: 0,
+            contradictions: Vec::new(alloc),
+            circles_us: Vec::new(alloc),
+        }
+    }
+
+    /// Marks a break.
+    pub(crate) fn take(
+        &mut self,
+        reason: Reason,
+        time_us: u64,
+        at: u32,
+        id: Option<BreakId>,
+    ) -> Done {
+        let since_us = self.window.since(time_us);
+        self.breaks = self.breaks.saturating_add(1);
+        if self.hairlines_us.len() < MOST_HAIRLINES {
+            self.hairlines_us.push(since_us)?;
+        }
+        let mark = Mark {
+            since_us,
+            time_us,
+            at,
+            id,
+        };
+        for row in self.rows.as_mut_slice() {
+            if row.reason == reason {
+                return row.take(self.alloc, mark);
+            }
+        }
+        let mut row = Row::new(self.alloc, reason);
+        row.take(self.alloc, mark)?;
+        self.rows.push(row)?;
+        Ok(())
+    }
+
+    /// Marks where the replies of a contradiction are, whose break is at this time.
+    pub(crate) fn take_contradiction(&mut self, replies_us: &[u64], break_us: u64) -> Done {
+        let to_us = self.window.since(break_us);
+        let mut from_us = to_us;
+        for reply_us in replies_us {
+            let since_us = self.window.since(*reply_us);
+            from_us = from_us.min(since_us);
+            self.circles_us.push(since_us)?;
+        }
+        self.contradictions.push(Contradiction { from_us, to_us })?;
+        Ok(())
+    }
+
+    /// The row of a reason.
+    pub(crate) fn row(&self, reason: Reason) -> Option<&Row> {
+        self.rows.as_slice().iter().find(|row| row.reason == reason)
+    }
+
+    /// The breaks that have a line through the lanes, in microseconds since the beginning: none where there are many.
+    pub(crate) fn hairlines_us(&self) -> &[u64] {
+        match self.breaks as usize <= MOST_HAIRLINES {
+            true => self.hairlines_us.as_slice(),
+            false => &[],
+        }
+    }
+}
+
+impl Row {
+    /// Without a break.
+    fn new(alloc: Global, reason: Reason) -> Row {
+        Row {
+            reason,
+            count: 0,
+            marks: Vec::new(alloc),
+            times_us: Vec::new(alloc),
+        }
+    }
+
+    /// The breaks that have a mark of their own; none where there are too many.
+    pub(crate) fn marks(&self) -> &[Mark] {
+        match self.count <= MOST_LINKS {
+            true => self.marks.as_slice(),
+            false => &[],
+        }
+    }
+
+    /// When the breaks are, in microseconds since the beginning.
+    pub(crate) fn times_us(&self) -> &[u64] {
+        self.times_us.as_slice()
+    }
+
+    /// Takes a break. The session lasts to it at least, so that one is left out that is drawn as one with that before.
+    fn take(&mut self, alloc: Global, mark: Mark) -> Done {
+        self.count = self.count.saturating_add(1);
+        if self.count <= MOST_LINKS {
+            self.marks.push(mark)?;
+        }
+        if self.times_us.len() >= MANY {
+            let apart = far_apart(alloc, self.times_us.as_slice(), mark.since_us)?;
+            self.times_us = apart;
+        }
+        push_apart(&mut self.times_us, mark.since_us, mark.since_us)
+    }
+}
+
+/// The times that can be told apart in a session that lasts so long.
+fn far_apart(alloc: Global, times_us: &[u64], lasts_us: u64) -> Result<Vec<u64>, AllocError> {
+    let mut apart = Vec::new(alloc);
+    push_all(&mut apart, times_us, lasts_us)?;
+    Ok(apart)
+}
+
+/// Pushes the times that can be told apart.
+fn push_all(apart: &mut Vec<u64>, times_us: &[u64], lasts_us: u64) -> Done {
+    for time_us in times_us {
+        push_apart(apart, *time_us, lasts_us)?;
+    }
+    Ok(())
+}
+
+/// Pushes a time that can be told apart from the one before in a session that lasts so long.
+fn push_apart(times_us: &mut Vec<u64>, time_us: u64, lasts_us: u64) -> Done {
+    if let Some(last_us) = times_us.last() {
+        if time_us.saturating_sub(*last_us) < lasts_us / 4_000 {
+            return Ok(());
+        }
+    }
+    times_us.push(time_us)?;
+    Ok(())
+}

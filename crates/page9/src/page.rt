@@ -1,0 +1,177 @@
+//! The page as it is asked for, judged and written.
+
+use crate::again::Again;
+use crate::breaks::Breaks;
+use crate::command::Words;
+use crate::doubts::Doubts;
+use crate::following::Following;
+use crate::footer::put_footer;
+use crate::head::{Told, put_head, put_title};
+use crate::known::put_known;
+use crate::span::{Span, Window};
+use capture9::{CaptureError, GREATEST_LIMIT, Records};
+use deck9::Profile;
+use info9::{Sign, Signs};
+use picture9::{Done, Markup};
+use report9::{Beginning, Extent, JudgeError, Scope, Stretch, write_all};
+use std::alloc::Global;
+use std::io::{Read, Write};
+use view9::{Ending, show_explained};
+
+/// What a page is made of, beside the judging.
+#[derive(Clone, Copy)]
+pub struct PageOf<'a> {
+    /// The text of the capture.
+    pub text: &'a [u8],
+    /// Its file; none where it came on the standard input.
+    pub file: Option<&'a [u8]>,
+    /// The file of the deck's sheet, where there is one.
+    pub sheet: Option<&'a [u8]>,
+    /// The program's name and version, as a line.
+    pub version: &'a [u8],
+    /// With which record the judging begins.
+    pub beginning: Beginning,
+    /// What is shown of the capture, in the whole width.
+    pub stretch: Stretch,
+}
+
+/// A capture, to be read three times, each time whole.
+#[derive(Drop)]
+pub struct Readings<R: Read + Drop> {
+    /// For the time of its first record.
+    pub first: R,
+    /// For the judging.
+    pub judged: R,
+    /// For the records around its breaks, and for what it says of itself.
+    pub drawn: R,
+}
+
+/// What the second reading of a capture finds.
+#[derive(Clone, Copy)]
+struct Found {
+    signs: [Option<Sign>; 9],
+    /// The time of the last record, in microseconds; none where there is none.
+    last_us: Option<u64>,
+}
+
+/// Writes the page of a capture: how its judging ends. Each reader gives the text of the page. It is judged over all parts, of a deck
+/// that is taken for this.
+///
+/// Nothing is written before the judging ended, and nothing where there is an error that is not `Write`. Errors are those of the
+/// judging.
+pub fn write_page<R: Read + Drop, W: Write>(
+    alloc: Global,
+    readings: Readings<R>,
+    writer: &mut W,
+    profile: &Profile,
+    page: &PageOf<'_>,
+) -> Result<Ending, JudgeError> {
+    let Readings {
+        first,
+        judged,
+        drawn,
+    } = readings;
+    let first_us = first_time(alloc, first)?;
+    let window = Window {
+        from_us: first_us.unwrap_or(0).max(page.stretch.from_us),
+        to_us: page.stretch.to_us,
+    };
+    let scope = Scope {
+        extent: Extent::WholeCapture,
+        beginning: page.beginning,
+    };
+    let mut following = Following::new(alloc, window, profile, page.beginning)?;
+    let ending = show_explained(alloc, judged, &mut following, scope, page.stretch, profile)?;
+    let found = read_again(alloc, drawn, profile, page.beginning, &mut following.breaks)?;
+    following.end_capture(found.last_us.unwrap_or(0))?;
+    let mut html = Markup::new(alloc);
+    let whole = span_of(first_us, found.last_us, Window::ALL);
+    let shown = span_of(first_us, found.last_us, window);
+    put_page(
+        &mut html,
+        page,
+        profile,
+        &mut following,
+        &found,
+        (whole, shown),
+    )?;
+    write_all(writer, html.as_slice())?;
+    Ok(ending)
+}
+
+/// From when to when a capture is shown in a window, where it has a record.
+fn span_of(first_us: Option<u64>, last_us: Option<u64>, window: Window) -> Option<Span> {
+    let (first_us, last_us) = (first_us?, last_us?);
+    Some(Span {
+        from_us: first_us.max(window.from_us),
+        to_us: last_us.min(window.to_us.unwrap_or(last_us)),
+    })
+}
+
+/// The time of the first record of a capture, in microseconds; none where it has none. What is wrong with it, the judging says.
+fn first_time<R: Read + Drop>(alloc: Global, reader: R) -> Result<Option<u64>, CaptureError> {
+    let mut records = Records::new(alloc, reader, GREATEST_LIMIT);
+    let first = records.next()?;
+    Ok(first.map(|record| record.time_us))
+}
+
+/// Reads the records a second time, for the pictures of breaks and for what the capture says of itself.
+fn read_again<R: Read + Drop>(
+    alloc: Global,
+    reader: R,
+    profile: &Profile,
+    beginning: Beginning,
+    breaks: &mut Breaks<'_>,
+) -> Result<Found, JudgeError> {
+    let mut records = Records::new(alloc, reader, GREATEST_LIMIT);
+    let mut signs = Signs::new(profile.rate, beginning);
+    let mut last_us = None;
+    for number in 1..=u32::MAX {
+        let Some(record) = records.next()? else {
+            break;
+        };
+        signs.take(&record);
+        breaks.record(number, record)?;
+        last_us = Some(record.time_us);
+    }
+    breaks.end_records()?;
+    Ok(Found {
+        signs: signs.signs(),
+        last_us,
+    })
+}
+
+/// Puts the page, of a capture that is so long, and of which so much is shown.
+fn put_page(
+    html: &mut Markup,
+    page: &PageOf<'_>,
+    profile: &Profile,
+    following: &mut Following<'_>,
+    found: &Found,
+    (whole, shown): (Option<Span>, Option<Span>),
+) -> Done {
+    let words = Words::of(html.alloc(), page, profile)?;
+    let again = Again {
+        options: words.options.as_slice(),
+        file: words.file.as_slice(),
+    };
+    let doubts = Doubts::of(&found.signs);
+    let reasons = following.breaks.reasons()?;
+    let told = Told {
+        totals: &following.totals,
+        breaks: &following.breaks,
+        strength: &following.strength,
+        reasons: reasons.as_slice(),
+        whole,
+        shown,
+    };
+    put_title(html, page, following.breaks.count())?;
+    put_head(html, page, profile, &told, &found.signs, again.options)?;
+    following.session.put(html, shown, reasons.as_slice())?;
+    following.breaks.put(html, &again, &doubts)?;
+    following.happened.put(html)?;
+    following.delays.put(html)?;
+    following.look.put(html)?;
+    put_known(html, &following.strength)?;
+    put_footer(html, page, &following.totals, &again)
+}

@@ -1,0 +1,288 @@
+//! The picture of the whole session: lanes above one another, all on one axis of time. A lane is a label, a chart and a scale. A chart
+//! is stretched to the width that there is, so it holds no text: text, dots and links are placed above it.
+
+use crate::axis::Axis;
+use crate::bins::{Bins, LateDot};
+use crate::breaks::ReasonCount;
+use crate::charts::{put_delay_lane, put_traffic};
+use crate::html::{begin_chart, begin_path, end_path, put_note};
+use crate::lane::Lane;
+use crate::lane_rows::{is_audio, lane_name, put_lane};
+use crate::mark_rows::put_marks;
+use crate::marks::Marks;
+use crate::mode_rows::put_modes;
+use crate::modes::ModeOverTime;
+use crate::span::{Span, Window};
+use deck9::{Hands, Known, Mode, Profile};
+use picture9::{Done, Markup};
+use std::alloc::{AllocError, Global};
+use tc25::Rate;
+use view9::{Field, SeenExchange, Value};
+
+/// For how long a shown mode is taken to be shown, in microseconds, where no other status comes.
+const MODE_HELD_US: u64 = 1_000_000;
+
+/// What is drawn of a session.
+#[derive(Drop)]
+pub(crate) struct Session {
+    window: Window,
+    hands: Hands,
+    rate: Rate,
+    bins: Bins,
+    pub(crate) marks: Marks,
+    shown: ModeOverTime,
+    commanded: ModeOverTime,
+    lanes: Vec<Lane>,
+    /// Whether the shown mode was ever known.
+    is_mode_known: bool,
+}
+
+impl Session {
+    /// Of nothing yet.
+    pub(crate) fn new(
+        alloc: Global,
+        window: Window,
+        profile: &Profile,
+    ) -> Result<Session, AllocError> {
+        let mut lanes = Vec::new(alloc);
+        push_lanes(&mut lanes, alloc, window, profile.hands)?;
+        Ok(Session {
+            window,
+            hands: profile.hands,
+            rate: profile.rate,
+            bins: Bins::new(alloc, window),
+            marks: Marks::new(alloc, window),
+            shown: ModeOverTime::new(alloc, window, MODE_HELD_US),
+            commanded: ModeOverTime::new(alloc, window, u64::MAX),
+            lanes,
+            is_mode_known: false,
+        })
+    }
+
+    /// Takes an exchange.
+    pub(crate) fn exchange(&mut self, seen: &SeenExchange<'_>) -> Done {
+        if seen.is_shown {
+            self.bins.exchange(seen)?;
+        }
+        let now_us = seen.end_us;
+        if let Known::Is(mode) = seen.after.shown {
+            self.is_mode_known = true;
+            self.shown.hold(mode, now_us)?;
+        }
+        self.commanded.follow(known_mode(&seen.after.goal), now_us)?;
+        for lane in self.lanes.as_mut_slice() {
+            lane.follow(lane.field.value_in(&seen.after), now_us)?;
+        }
+        Ok(())
+    }
+
+    /// Takes a late reply.
+    pub(crate) fn late(&mut self, late: LateDot) -> Done {
+        self.bins.late(late)
+    }
+
+    /// From this time on nothing is known of the deck: its part ended, or the capture did.
+    pub(crate) fn end_part(&mut self, now_us: u64) -> Done {
+        self.shown.end(now_us)?;
+        self.commanded.end(now_us)?;
+        for lane in self.lanes.as_mut_slice() {
+            lane.follow(Value::Unknown, now_us)?;
+        }
+        Ok(())
+    }
+
+    /// Puts the section, with a row for each of these reasons of breaks. There is no time where the capture has no record.
+    pub(crate) fn put(
+        &self,
+        html: &mut Markup,
+        span: Option<Span>,
+        reasons: &[ReasonCount],
+    ) -> Done {
+        html.put_mark("<section id=\"session\"><h2>The whole session</h2>\n")?;
+        match span {
+            Some(span) => self.put_figure(html, span, reasons)?,
+            None => html.put_mark("<p>The capture has no records.</p>")?,
+        }
+        html.put_mark("</section>\n")
+    }
+
+    /// Puts the picture of a session that lasts so long.
+    fn put_figure(&self, html: &mut Markup, span: Span, reasons: &[ReasonCount]) -> Done {
+        let axis = Axis::of(span);
+        html.put_mark("<p class=\"note\">Time runs to the right, ")?;
+        html.put_mark(axis.clock.name())?;
+        html.put_mark(
+            " on the capture&rsquo;s clock. <b>Blank means not known.</b></p>\n\
+            <figure><figcaption class=\"hidden\">Breaks, traffic, reply delays and what was known of the deck, over time. \
+            The breaks are listed below, and the delays and what was known have tables.</figcaption>\n",
+        )?;
+        put_ground(html, span, axis, self.marks.hairlines_us())?;
+        html.put_mark("<div class=\"lanes\">\n")?;
+        put_marks(html, span, &self.marks, reasons)?;
+        html.put_mark("</div><div class=\"lanes\">\n")?;
+        if self.bins.exchanges() == 0 {
+            put_note(html, "Traffic, Reply delay: no exchange is complete")?;
+        } else {
+            self.put_lanes(html, span)?;
+        }
+        put_axis(html, span, axis)?;
+        html.put_mark("</div>\n")?;
+        if self.bins.exchanges() > 0 {
+            self.put_key(html)?;
+        }
+        html.put_mark("</figure>")
+    }
+
+    /// Puts the lanes of exchanges.
+    fn put_lanes(&self, html: &mut Markup, span: Span) -> Done {
+        let bins = self.bins.drawn(span.lasts_us())?;
+        put_traffic(html, span, &bins)?;
+        put_delay_lane(html, span, self.window, &bins)?;
+        put_modes(html, span, &self.shown, &self.commanded)?;
+        for lane in self.lanes.as_slice() {
+            if lane.is_drawn() {
+                put_lane(html, span, lane, self.rate)?;
+            }
+        }
+        Ok(())
+    }
+
+    /// Puts what is not drawn, since it was never known, and what the bars mean.
+    fn put_key(&self, html: &mut Markup) -> Done {
+        html.put_mark("<div class=\"below\">\n")?;
+        self.put_never_known(html)?;
+        let (yes, no) = match self.hands {
+            Hands::None => ("set, time known (Local: yes)", "clear (Local: no)"),
+            Hands::Allowed => (
+                "set, time known (Local: yes, Panel: on)",
+                "clear (Local: no, Panel: off)",
+            ),
+        };
+        html.put_mark("<ul class=\"key\">\n")?;
+        put_sample(html, ("state", "M0 0h26v14h-26z"), yes)?;
+        put_sample(html, ("half", "M0 7h26v7h-26z"), "set, time not known")?;
+        put_sample(html, ("clear", "M0 12h26v2h-26z"), no)?;
+        put_sample(html, ("blank", "M0.5 0.5h25v13h-25z"), "not known")?;
+        html.put_mark("</ul></div>\n")
+    }
+
+    /// Puts what was never known.
+    fn put_never_known(&self, html: &mut Markup) -> Done {
+        let mut is_begun = false;
+        if !self.is_mode_known {
+            html.put_mark("<p>Never known: Shown mode")?;
+            is_begun = true;
+        }
+        for lane in self.lanes.as_slice() {
+            if lane.is_drawn() || is_audio(lane.field) {
+                continue;
+            }
+            html.put_mark(if is_begun { ", " } else { "<p>Never known: " })?;
+            html.put_mark(lane_name(lane.field))?;
+            is_begun = true;
+        }
+        html.put_mark(if is_begun { "</p>\n" } else { "" })
+    }
+}
+
+/// Pushes a lane for each field that is not a mode, from the top: for the panel only where it may be touched.
+fn push_lanes(lanes: &mut Vec<Lane>, alloc: Global, window: Window, hands: Hands) -> Done {
+    for field in [
+        Field::Local,
+        Field::Panel,
+        Field::In,
+        Field::Out,
+        Field::AudioIn,
+        Field::AudioOut,
+    ] {
+        if field != Field::Panel || hands == Hands::Allowed {
+            lanes.push(Lane::new(alloc, field, window))?;
+        }
+    }
+    Ok(())
+}
+
+/// The mode that is known, where one is.
+fn known_mode(known: &Known<Mode>) -> Option<Mode> {
+    match known {
+        Known::Is(mode) => Some(*mode),
+        Known::Unknown => None,
+    }
+}
+
+/// Puts the head of a lane up to its label's words. Where a narrow page has no room for a label above the chart, it stands in the
+/// scale.
+pub(crate) fn begin_lane(html: &mut Markup, look: &'static str) -> Done {
+    html.put_mark("<div class=\"lane")?;
+    html.put_mark(look)?;
+    html.put_mark("\"><div class=\"label\">")
+}
+
+/// Puts the head of a chart so many pixels tall, up to its title's words.
+pub(crate) fn begin_lane_chart(html: &mut Markup, tall: u64) -> Done {
+    html.put_whole("</div>\n<div class=\"chart\" style=\"height:", tall)?;
+    html.put_mark("px\">")?;
+    begin_chart(html, tall)
+}
+
+/// Puts what stands behind each lane: dotted lines at the ticks, and a line at each break where there are few.
+fn put_ground(html: &mut Markup, span: Span, axis: Axis, hairlines_us: &[u64]) -> Done {
+    html.put_mark("<svg class=\"ground\" aria-hidden=\"true\"><defs><g id=\"g\">")?;
+    begin_path(html, "ticks")?;
+    for tick in 0..axis.ticks() {
+        let since_us = axis.tick_us(tick).saturating_sub(span.from_us);
+        put_down(html, span, since_us)?;
+    }
+    end_path(html)?;
+    put_hairlines(html, span, hairlines_us)?;
+    html.put_mark("</g></defs></svg>\n")
+}
+
+/// Puts a line at each of these times.
+fn put_hairlines(html: &mut Markup, span: Span, hairlines_us: &[u64]) -> Done {
+    if hairlines_us.is_empty() {
+        return Ok(());
+    }
+    begin_path(html, "hair")?;
+    for since_us in hairlines_us {
+        put_down(html, span, *since_us)?;
+    }
+    end_path(html)
+}
+
+/// Puts the steps of a line from the top of a chart to its foot.
+fn put_down(html: &mut Markup, span: Span, since_us: u64) -> Done {
+    html.put_mark("M")?;
+    span.put_x(html, since_us)?;
+    html.put_mark(" 0V130")
+}
+
+/// Puts the axis of time.
+fn put_axis(html: &mut Markup, span: Span, axis: Axis) -> Done {
+    begin_lane(html, " thin")?;
+    html.put_mark("</div>\n<div class=\"chart axis\">\n")?;
+    for tick in 0..axis.ticks() {
+        let us = axis.tick_us(tick);
+        html.put_mark("<span style=\"left:")?;
+        span.put_percent(html, us.saturating_sub(span.from_us))?;
+        html.put_mark("\">")?;
+        axis.put_tick(html, us)?;
+        html.put_mark("</span>\n")?;
+    }
+    html.put_mark("</div><div class=\"scale\"></div></div>\n")
+}
+
+/// Puts what a bar means.
+fn put_sample(
+    html: &mut Markup,
+    (look, path): (&'static str, &'static str),
+    words: &'static str,
+) -> Done {
+    html.put_mark("<li><svg width=\"26\" height=\"14\" aria-hidden=\"true\">")?;
+    begin_path(html, look)?;
+    html.put_mark(path)?;
+    end_path(html)?;
+    html.put_mark("</svg>")?;
+    html.put_mark(words)?;
+    html.put_mark("</li>\n")
+}

@@ -1,7 +1,0 @@
-use Rattle.std.proofs.Common.{drop, ◌++◌, ◌≡◌}
-use Rattle.picture9.specs.Svg.{escaped}
-use Rattle.picture9.proofs.svg.Svg.put_foreign.Given as goal
-
--- what stands there, with the text that is still to come, is the whole
-abbrev pub invariant-loop-byte : goal.invariant-loop-byte
-invariant-loop-byte l = l.self-inside.text.items ++ escaped (drop l.byte-index l.text) ≡ l.fn.self ++ escaped l.text

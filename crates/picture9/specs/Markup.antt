@@ -1,0 +1,17 @@
+-- Foreign text in an SVG or in a page.
+use Rattle.std.specs.Prelude.{◌≢◌, ◌++◌, ◌∷◌, [], ℕ, List, codes, ◌==◌, if◌then◌else◌}
+use Rattle.std.specs.List.{All}
+
+-- a byte as it is written: those of & < > " have names
+abbrev pub escape_of : ℕ → List ℕ
+escape_of b = if b == 38 then codes "&amp;" else (if b == 60 then codes "&lt;" else (if b == 62 then codes "&gt;" else (if b == 34 then codes "&quot;" else b ∷ [])))
+
+abbrev pub escaped : List ℕ → List ℕ
+escaped [] = []
+escaped (b ∷ text) = escape_of b ++ escaped text
+
+-- no byte of it begins a mark, ends one, or ends a quoted value
+pub record IsEscaped (text : List ℕ) : Type 0 where
+  pub begins_none : All (λ b. b ≢ 60) text
+  pub ends_none : All (λ b. b ≢ 62) text
+  pub quotes_none : All (λ b. b ≢ 34) text
