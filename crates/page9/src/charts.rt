@@ -3,9 +3,9 @@
 use crate::bins::{Bin, DrawnBins, LateDot, MOST_DRAWN_US};
 use crate::html::{begin_path, end_path, put_clock, put_fixed, put_thousands};
 use crate::mark_rows::{put_mark_html, put_more};
-use crate::rates::{Rate, put_rate, round_above};
 use crate::session::{begin_lane, begin_lane_chart};
 use crate::span::{Span, Window};
+use crate::traffic::{Traffic, put_rate, round_above};
 use block9::REPLY_LIMIT_US;
 use picture9::{Done, Markup};
 use std::alloc::{AllocError, Global};
@@ -18,7 +18,7 @@ const DELAYS_TALL: u64 = 130;
 
 /// Which delay of a bin a line tells.
 #[derive(Clone, Copy)]
-enum Told {
+enum DelayLine {
     Greatest,
     Middle,
 }
@@ -67,7 +67,7 @@ fn put_width(html: &mut Markup, width_us: u64) -> Done {
 }
 
 /// How many exchanges a second there are in a bin.
-fn rate_in(bins: &DrawnBins, place: usize, bin: &Bin, lasts_us: u64) -> Rate {
+fn rate_in(bins: &DrawnBins, place: usize, bin: &Bin, lasts_us: u64) -> Traffic {
     let covered_us = u128::from(bins.covered_us(place, lasts_us));
     u128::from(bin.exchanges)
         .saturating_mul(1_000_000_000_000_000)
@@ -76,7 +76,7 @@ fn rate_in(bins: &DrawnBins, place: usize, bin: &Bin, lasts_us: u64) -> Rate {
 }
 
 /// The greatest number of exchanges a second.
-fn greatest_rate(bins: &DrawnBins, lasts_us: u64) -> Rate {
+fn greatest_rate(bins: &DrawnBins, lasts_us: u64) -> Traffic {
     let mut greatest = 0;
     for (place, bin) in bins.bins.as_slice().iter().enumerate() {
         greatest = rate_in(bins, place, bin, lasts_us).max(greatest);
@@ -89,7 +89,7 @@ fn traffic_steps(
     alloc: Global,
     bins: &DrawnBins,
     lasts_us: u64,
-    most: Rate,
+    most: Traffic,
 ) -> Result<Steps, AllocError> {
     let mut heights = Vec::new(alloc);
     push_traffic(&mut heights, bins, lasts_us, most)?;
@@ -101,7 +101,7 @@ fn push_traffic(
     heights: &mut Vec<Option<u64>>,
     bins: &DrawnBins,
     lasts_us: u64,
-    most: Rate,
+    most: Traffic,
 ) -> Done {
     for (place, bin) in bins.bins.as_slice().iter().enumerate() {
         let below = most.saturating_sub(rate_in(bins, place, bin, lasts_us));
@@ -151,8 +151,8 @@ pub(crate) fn put_delay_lane(
 
 /// Puts the lines of delays, and the limit.
 fn put_delay_lines(html: &mut Markup, span: Span, bins: &DrawnBins) -> Done {
-    let greatest = delay_steps(html.alloc(), bins, Told::Greatest)?;
-    let middle = delay_steps(html.alloc(), bins, Told::Middle)?;
+    let greatest = delay_steps(html.alloc(), bins, DelayLine::Greatest)?;
+    let middle = delay_steps(html.alloc(), bins, DelayLine::Middle)?;
     put_steps(
         html,
         span,
@@ -171,18 +171,18 @@ fn put_delay_lines(html: &mut Markup, span: Span, bins: &DrawnBins) -> Done {
 }
 
 /// The heights of delays: none where a bin has no reply.
-fn delay_steps(alloc: Global, bins: &DrawnBins, told: Told) -> Result<Steps, AllocError> {
+fn delay_steps(alloc: Global, bins: &DrawnBins, line: DelayLine) -> Result<Steps, AllocError> {
     let mut heights = Vec::new(alloc);
-    push_delays(&mut heights, bins, told)?;
+    push_delays(&mut heights, bins, line)?;
     Ok(Steps { heights })
 }
 
 /// Pushes the heights of delays.
-fn push_delays(heights: &mut Vec<Option<u64>>, bins: &DrawnBins, told: Told) -> Done {
+fn push_delays(heights: &mut Vec<Option<u64>>, bins: &DrawnBins, line: DelayLine) -> Done {
     for bin in bins.bins.as_slice() {
-        let delay_us = match told {
-            Told::Greatest => bin.greatest_us,
-            Told::Middle => bin.middle_us(),
+        let delay_us = match line {
+            DelayLine::Greatest => bin.greatest_us,
+            DelayLine::Middle => bin.middle_us(),
         };
         let height = match bin.exchanges {
             0 => None,

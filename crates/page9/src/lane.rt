@@ -13,9 +13,9 @@ pub(crate) const MOST_CUTS: u32 = 80;
 /// How many long runs may be kept before those that have grown short are left out.
 const MANY_LONG: usize = 64;
 
-/// What a value looks like in a lane.
+/// How a value is drawn in a lane.
 #[derive(Clone, Copy, Debug, PartialEq, Eq)]
-pub(crate) enum Look {
+pub(crate) enum Shade {
     /// It is known: a time, or yes or on.
     State,
     /// A register is set to a time that is not known.
@@ -24,15 +24,15 @@ pub(crate) enum Look {
     Low,
 }
 
-impl Look {
-    /// What a value looks like; nothing where it is not known.
-    fn of(value: Value) -> Option<Look> {
+impl Shade {
+    /// How a value is drawn; nothing where it is not known.
+    fn of(value: Value) -> Option<Shade> {
         match value {
             Value::Unknown => None,
-            Value::Set => Some(Look::Half),
-            Value::Clear | Value::Local(false) | Value::Panel(false) => Some(Look::Low),
+            Value::Set => Some(Shade::Half),
+            Value::Clear | Value::Local(false) | Value::Panel(false) => Some(Shade::Low),
             Value::At(_) | Value::Mode(_) | Value::Local(true) | Value::Panel(true) => {
-                Some(Look::State)
+                Some(Shade::State)
             }
         }
     }
@@ -117,19 +117,19 @@ impl Lane {
 
     /// Ends the run of what was known.
     fn end_run(&mut self, now_us: u64) -> Done {
-        let Some(look) = Look::of(self.value) else {
+        let Some(shade) = Shade::of(self.value) else {
             return Ok(());
         };
         let Some((from_us, to_us)) = self.window.clip(self.since_us, now_us) else {
             return Ok(());
         };
-        match look {
-            Look::State => {
+        match shade {
+            Shade::State => {
                 self.take_time(from_us, to_us)?;
                 self.states.take(from_us, to_us)
             }
-            Look::Half => self.halves.take(from_us, to_us),
-            Look::Low => self.lows.take(from_us, to_us),
+            Shade::Half => self.halves.take(from_us, to_us),
+            Shade::Low => self.lows.take(from_us, to_us),
         }
     }
 

@@ -29,7 +29,6 @@ mod marks;
 mod mode_rows;
 mod modes;
 mod page;
-mod rates;
 mod runs;
 mod session;
 mod span;
@@ -37,5 +36,6 @@ mod style;
 mod table;
 #[cfg(test)]
 mod tests;
+mod traffic;
 
 pub use page::{PageOf, Readings, write_page};

@@ -4,7 +4,7 @@ use crate::breaks::ReasonCount;
 use crate::html::{
     BreakId, begin_chart, begin_path, end_path, put_clock, put_counted, put_reason, put_thousands,
 };
-use crate::marks::{MOST_LINKS, Mark, Marks, Row};
+use crate::marks::{MOST_LINKS, Mark, Marks, ReasonRow};
 use crate::session::begin_lane;
 use crate::span::Span;
 use block9::Reason;
@@ -35,7 +35,7 @@ pub(crate) fn put_marks(
 }
 
 /// Puts the row of a reason.
-fn put_row(html: &mut Markup, span: Span, marks: &Marks, row: &Row) -> Done {
+fn put_row(html: &mut Markup, span: Span, marks: &Marks, row: &ReasonRow) -> Done {
     begin_lane(html, " mark-lane")?;
     put_reason(html, row.reason)?;
     html.put_mark("</div>\n<div class=\"chart\">")?;
@@ -62,7 +62,7 @@ fn cell_of(span: Span, since_us: u64) -> u64 {
 }
 
 /// Puts a mark for the first break of each thousandth, with how many more there are.
-fn put_links(html: &mut Markup, span: Span, row: &Row) -> Done {
+fn put_links(html: &mut Markup, span: Span, row: &ReasonRow) -> Done {
     let mut first: Option<Mark> = None;
     let mut more = 0u64;
     for mark in row.marks() {
@@ -141,7 +141,7 @@ pub(crate) fn put_mark_html(
 }
 
 /// Puts a stroke without a link for each thousandth in which there is a break.
-fn put_strokes(html: &mut Markup, span: Span, row: &Row) -> Done {
+fn put_strokes(html: &mut Markup, span: Span, row: &ReasonRow) -> Done {
     begin_chart(html, 18)?;
     html.put_mark(row.reason.name())?;
     html.put_mark(" ")?;

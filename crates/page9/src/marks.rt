@@ -30,7 +30,7 @@ pub(crate) struct Mark {
 
 /// The breaks of one reason.
 #[derive(Drop)]
-pub(crate) struct Row {
+pub(crate) struct ReasonRow {
     pub(crate) reason: Reason,
     /// How many there are.
     pub(crate) count: u32,
@@ -54,7 +54,7 @@ pub(crate) struct Contradiction {
 pub(crate) struct Marks {
     alloc: Global,
     window: Window,
-    rows: Vec<Row>,
+    rows: Vec<ReasonRow>,
     /// The first breaks, in microseconds since the beginning.
     hairlines_us: Vec<u64>,
     breaks: u32,
@@ -102,7 +102,7 @@ impl Marks {
                 return row.take(self.alloc, mark);
             }
         }
-        let mut row = Row::new(self.alloc, reason);
+        let mut row = ReasonRow::new(self.alloc, reason);
         row.take(self.alloc, mark)?;
         self.rows.push(row)?;
         Ok(())
@@ -122,7 +122,7 @@ impl Marks {
     }
 
     /// The row of a reason.
-    pub(crate) fn row(&self, reason: Reason) -> Option<&Row> {
+    pub(crate) fn row(&self, reason: Reason) -> Option<&ReasonRow> {
         self.rows.as_slice().iter().find(|row| row.reason == reason)
     }
 
@@ -135,10 +135,10 @@ impl Marks {
     }
 }
 
-impl Row {
+impl ReasonRow {
     /// Without a break.
-    fn new(alloc: Global, reason: Reason) -> Row {
-        Row {
+    fn new(alloc: Global, reason: Reason) -> ReasonRow {
+        ReasonRow {
             reason,
             count: 0,
             marks: Vec::new(alloc),

@@ -4,17 +4,17 @@ use crate::html::{put_padded, put_thousands};
 use picture9::{Done, Markup};
 
 /// Exchanges in 10^9 seconds.
-pub(crate) type Rate = u128;
+pub(crate) type Traffic = u128;
 
 /// One exchange a second.
-const ONE: Rate = 1_000_000_000;
+const ONE: Traffic = 1_000_000_000;
 
 /// The round numbers between two powers of ten, in tenths.
 const ROUND: [u128; 9] = [10, 15, 20, 30, 40, 50, 60, 80, 100];
 
 /// A round number that is not below this one.
-pub(crate) fn round_above(rate: Rate) -> Rate {
-    let mut round = Rate::MAX;
+pub(crate) fn round_above(rate: Traffic) -> Traffic {
+    let mut round = Traffic::MAX;
     let mut power: u128 = 1;
     for _ in 0..30 {
         for tenths in ROUND {
@@ -29,7 +29,7 @@ pub(crate) fn round_above(rate: Rate) -> Rate {
 }
 
 /// Puts a number as short as it goes: from 10 on a whole one, from 1 on with one decimal at most, and below with nine at most.
-pub(crate) fn put_rate(html: &mut Markup, rate: Rate) -> Done {
+pub(crate) fn put_rate(html: &mut Markup, rate: Traffic) -> Done {
     let (unit, places) = if rate >= 10 * ONE {
         (ONE, 0)
     } else if rate >= ONE {
