@@ -174,7 +174,7 @@ stretches() {
     page_of "$(session_of 0 17600)" --from 0.0204 --to 0.0604
     has 'a stretch' '<dt>Shown from</dt><dd>00:00:00.020</dd>' '<dt>Shown to</dt><dd>00:00:00.060</dd>' \
         '<dt>Records</dt><dd>44</dd>' '<dt>Exchanges</dt><dd>5</dd>' '<path class="clear" d="M0.00 14h1000.00v2h-1000.00z"/>' \
-        '<path class="state" d="M120.00 2h880.00v14h-880.00z"/>' '<code>--all --from 0.020400 --to 0.060400</code>' \
+        '<path class="state" d="M120.00 2h880.00v14h-880.00z"/>' '<code>--all</code>' '<code>ninecheck page --from 0.020400 --to 0.060400 night.csv</code>' \
         '<span>2 commands</span>'
     lacks 'a stretch' 'STATUS SENSE &rarr;'
     page_of "$play D 10 $play +20000 $play D 10" --from 0.01

@@ -250,10 +250,22 @@ drawn() {
 # Equal breaks in a row, between which no exchange comes, are one entry.
 in_a_row() {
     section 'C 20 01 21 +12000 20 01 21 +12000 20 01 21 +12000 20 00 20 +12000 20 01 21 $ack C 20 01 21 +12000 61'
-    same 'equal breaks in a row' "$(summaries)" 'r4: 00:00:00.013 record 4 L2 no reply PLAY got no reply; the next command came 12,400 µs after it. 3 breaks to record 10 at 00:00:00.040.
+    same 'equal breaks in a row' "$(summaries)" 'r4: 00:00:00.013 record 4 L2 no reply PLAY got no reply; the next command came 12,400 µs after it. 3 in a row, the last at record 10, 00:00:00.040.
 r13: 00:00:00.053 record 13 L2 no reply STOP got no reply; the next command came 12,400 µs after it.
 r22: 00:00:00.068 record 22 L2 no reply PLAY got no reply; the next command came 12,400 µs after it.'
     judge 'they count each' grep -qF '<td class="count">5</td>' "$work/out"
+}
+
+# offered_works NAME: each command that the page offers, with the record 400 in the place of RECORD, is one that the program
+# takes, and that finds a break.
+offered_works() {
+    local offered=0 command
+    while IFS= read -r command; do
+        offered=$((offered + 1))
+        (cd "$work" && eval "\"$program\" ${command//RECORD/400}") > "$work/made" 2> "$work/err"
+        judge "$1: $command" [ $? = 1 ]
+    done < <(grep -o '<code>ninecheck [a-z]* --all[^<]*</code>' "$work/page" | plain | sed 's/^ninecheck //')
+    judge "$1: it offers $offered commands" [ "$offered" = 2 ]
 }
 
 # What a long list leaves out.
@@ -262,9 +274,13 @@ limits() {
     judge "120 breaks" [ "$(summaries | wc -l) $(grep -c '^<svg' "$work/out")" = '120 100' ]
     has_pictures '120 breaks' 10
     same 'the pictures that are not there' "$(paragraphs | tail -n 1)" \
-        'The first 100 breaks have a picture. ninecheck picture --at RECORD capture.csv draws any other.'
+        'The first 100 breaks have a picture. ninecheck picture --all --at RECORD capture.csv draws any other.'
     capture_of "$(repeated 1003 "$late")"
     mv "$work/capture.csv" "$work/the deck's <night>.csv"
+    page_of "$work/the deck's <night>.csv" --rate 29.97df
+    offered_works 'what a long list leaves out'
+    page_of "$work/the deck's <night>.csv" --rate 29.97df --from 0.001
+    offered_works 'what a stretch leaves out'
     page_of "$work/the deck's <night>.csv" --rate 29.97df
     judge "1,003 breaks" [ "$(summaries | wc -l) $(grep -c '^<pre' "$work/out")" = '1000 1000' ]
     judge "1,003 breaks, the pictures" [ "$(grep -c '^<svg' "$work/out")" = 100 ]

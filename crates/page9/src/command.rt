@@ -4,7 +4,7 @@ use crate::page::PageOf;
 use deck9::{Hands, Profile};
 use info9::rate_word;
 use picture9::Done;
-use report9::{Beginning, TextBuffer, put_text};
+use report9::{Beginning, Stretch, TextBuffer, put_text};
 use std::alloc::{AllocError, Global};
 use tc25::Rate;
 use view9::put_seconds;
@@ -12,8 +12,10 @@ use view9::put_seconds;
 /// The words behind a command of the program.
 #[derive(Drop)]
 pub(crate) struct Words {
-    /// The options.
+    /// The options of the judging.
     pub(crate) options: Vec<u8>,
+    /// The options of the stretch that is shown.
+    pub(crate) stretch: Vec<u8>,
     /// The capture's name; nothing where it came on the standard input.
     pub(crate) file: Vec<u8>,
 }
@@ -27,17 +29,23 @@ impl Words {
     ) -> Result<Words, AllocError> {
         let mut words = Words {
             options: Vec::new(alloc),
+            stretch: Vec::new(alloc),
             file: Vec::new(alloc),
         };
         put_options(&mut words.options, page, profile)?;
+        put_stretch(&mut words.stretch, page.stretch)?;
         if let Some(file) = page.file {
+            put_text(
+                &mut words.file,
+                if file.starts_with(b"-") { "-- " } else { "" },
+            )?;
             put_name(&mut words.file, file)?;
         }
         Ok(words)
     }
 }
 
-/// Puts the options, with a blank between them.
+/// Puts the options of the judging, with a blank between them.
 fn put_options(options: &mut Vec<u8>, page: &PageOf<'_>, profile: &Profile) -> Done {
     if profile.hands == Hands::Allowed {
         put_option(options, "--hands")?;
@@ -53,11 +61,16 @@ fn put_options(options: &mut Vec<u8>, page: &PageOf<'_>, profile: &Profile) -> D
         put_option(options, "--deck ")?;
         put_name(options, sheet)?;
     }
-    if page.stretch.from_us > 0 {
+    Ok(())
+}
+
+/// Puts the options of a stretch; nothing where it is the whole capture.
+fn put_stretch(options: &mut Vec<u8>, stretch: Stretch) -> Done {
+    if stretch.from_us > 0 {
         put_option(options, "--from ")?;
-        put_seconds(options, page.stretch.from_us)?;
+        put_seconds(options, stretch.from_us)?;
     }
-    if let Some(to_us) = page.stretch.to_us {
+    if let Some(to_us) = stretch.to_us {
         put_option(options, "--to ")?;
         put_seconds(options, to_us)?;
     }

@@ -19,7 +19,7 @@ pub(crate) fn put_footer(
     put_totals_line(&mut line, totals)?;
     html.put_foreign(line.as_slice().strip_suffix(b"\n").unwrap_or(&[]))?;
     html.put_mark("</code></p>\n<p>Made by <code>")?;
-    again.put(html, "page")?;
+    again.put_page(html)?;
     html.put_mark("</code>, ")?;
     html.put_foreign(page.version.strip_suffix(b"\n").unwrap_or(&[]))?;
     html.put_mark(", from a capture of ")?;

@@ -164,12 +164,12 @@ impl BreakId {
     }
 }
 
-/// Puts how many breaks in a row there are, and to which record and time.
+/// Puts how many equal breaks in a row there are, and which record is the last, with its time.
 pub(crate) fn put_run(html: &mut Markup, run: &BreakRun) -> Done {
     put_thousands(html, u64::from(run.breaks()))?;
-    html.put_mark(" breaks to record ")?;
+    html.put_mark(" in a row, the last at record ")?;
     put_thousands(html, u64::from(run.last_at()))?;
-    html.put_mark(" at ")?;
+    html.put_mark(", ")?;
     put_clock(html, run.last_us())
 }
 

@@ -153,6 +153,7 @@ fn put_page(
     let words = Words::of(html.alloc(), page, profile)?;
     let again = Again {
         options: words.options.as_slice(),
+        stretch: words.stretch.as_slice(),
         file: words.file.as_slice(),
     };
     let doubts = Doubts::of(&found.signs);

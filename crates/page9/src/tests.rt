@@ -63,7 +63,7 @@ fn tells_equal_breaks_as_one(rt: HostRuntime) -> Result<(), Fail> {
     let html = page_of(rt.alloc(), SILENT, Stretch::ALL)?;
     let pieces = "<h1 class=\"bad\">2 breaks</h1>\n\
         No reply 2. The first is <a href=\"#r4\">record 4</a> at 00:00:00.021.\n\
-        PLAY got no reply; the next command came 20,000 &#181;s after it. 2 breaks to record 7 at 00:00:00.042.</span>\n";
+        PLAY got no reply; the next command came 20,000 &#181;s after it. 2 in a row, the last at record 7, 00:00:00.042.</span>\n";
     has(&rt, html.as_slice(), pieces)
 }
 

@@ -92,7 +92,7 @@ impl Breaks<'_> {
         if self.listed.len() > MOST_PICTURES {
             html.put_whole("<p class=\"soft\">The first ", MOST_PICTURES as u64)?;
             html.put_mark(" breaks have a picture. <code>")?;
-            again.put(html, "picture --at RECORD")?;
+            again.put(html, "picture --all --at RECORD")?;
             html.put_mark("</code> draws any other.</p>\n")?;
         }
         Ok(())
