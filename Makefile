@@ -4,6 +4,7 @@
 #   make install [PREFIX=/usr/local] [DESTDIR=]    make uninstall, with the same
 #   make deb     out/ninecheck_VERSION_amd64.deb
 #   make dist    out/ninecheck-VERSION-linux-x86_64.tar.gz
+#   make check   runs every script of tests/ on the built program, and proves nothing
 #   make audit   tries every edit of must-fail/ and audit/, which takes about an hour on four cores
 #
 # Only `make` and `make audit` prove: the others take what `make` or `.ci/run` built.
@@ -28,7 +29,7 @@ for_bash := $(to)/share/bash-completion/completions/ninecheck
 for_zsh := $(to)/share/zsh/$(ZSH_FOLDER)/_ninecheck
 for_fish := $(to)/share/fish/vendor_completions.d/ninecheck.fish
 
-.PHONY: program built install uninstall deb dist audit
+.PHONY: program built install uninstall deb dist check audit
 
 program:
 	@make/prove.sh
@@ -39,7 +40,6 @@ built:
 install: built
 	install -D -m 755 ninecheck "$(to)/bin/ninecheck"
 	install -D -m 755 $(PROGRAM) "$(to)/lib/ninecheck/ninecheck"
-	install -D -m 644 -t "$(to)/share/ninecheck/convert" convert/*
 	install -D -m 644 -t "$(to)/share/ninecheck/view" view/*.*
 	install -D -m 644 -t "$(to)/share/ninecheck/decks" decks/*.toml
 	install -D -m 644 -t "$(to)/share/ninecheck/examples" examples/*.csv examples/*.toml examples/ANSWERS
@@ -69,6 +69,9 @@ dist: built
 	rm -rf out/dist
 	$(MAKE) --no-print-directory install DESTDIR= PREFIX=out/dist/$(PACKAGE) PAGE_PREFIX=/usr/local
 	tar -C out/dist --owner=0 --group=0 -czf out/$(PACKAGE).tar.gz $(PACKAGE)
+
+check: built
+	@make/check.sh
 
 audit:
 	@make/audit.sh

@@ -1,20 +1,24 @@
 #!/usr/bin/env bash
-# Runs the converters on the stored exports and on damaged ones, under each awk, and the built
-# program on what they make. The last line is 'N passed, M failed'.
+# Has the built program make captures of the stored exports and of damaged ones, and judge what it made. The last line is
+# 'N passed, M failed'.
 set -u
 cd "$(dirname "$0")/.." || exit 1
 . tests/lib/tools.sh
-need_tools mawk gawk busybox python3 ts=moreutils
+need_tools python3 ts=moreutils
 . tests/lib/judge.sh
+. tests/lib/errors.sh
 . tests/lib/program.sh
-. tests/lib/awk.sh
 . tests/lib/closed.sh
 
 # convert CONVERTER WORDS: the converter on standard input; its streams are left in $work/out and $work/err.
 convert() {
     # shellcheck disable=SC2086
-    "$(script_under "$awk")" convert "$1" $2 > "$work/out" 2> "$work/err"
-    status=$?
+    run convert "$1" $2
+}
+
+# is_made FILE: the run made this text and said nothing.
+is_made() {
+    [ "$status" = 0 ] && cmp "$work/out" "$1" && [ ! -s "$work/err" ]
 }
 
 # is_refused LINE: the run wrote this line to standard error, and nothing to standard output. The status is that of wrong words where
@@ -34,18 +38,18 @@ is_verdict() {
 
 # The stored exports, each with its capture and its answer.
 stored_exports() {
-    local export converter words capture want_status want_line
-    while IFS='|' read -r export converter words capture want_status want_line; do
-        case "$export" in '#'* | '') continue ;; esac
-        convert "$converter" "$words" < "examples/exports/$export"
-        judge "$awk: $export" is_made "examples/exports/$capture"
-        judge "$awk: the program on $export" is_verdict "$want_status" "$want_line"
+    local exported converter words capture want_status want_line
+    while IFS='|' read -r exported converter words capture want_status want_line; do
+        case "$exported" in '#'* | '') continue ;; esac
+        convert "$converter" "$words" < "examples/exports/$exported"
+        judge "$exported" is_made "examples/exports/$capture"
+        judge "the program on $exported" is_verdict "$want_status" "$want_line"
         [ "$converter" = log ] || continue
-        convert "$converter" "$words --live" < "examples/exports/$export"
-        judge "$awk: $export, live" is_made "examples/exports/$capture"
+        convert "$converter" "$words --live" < "examples/exports/$exported"
+        judge "$exported, live" is_made "examples/exports/$capture"
     done < examples/exports/ANSWERS
     convert sigrok '--samplerate 2000000' < examples/exports/sigrok-damaged.txt
-    judge "$awk: sigrok-damaged.txt" is_refused 'ninecheck convert sigrok: line 10: a damaged byte: 5613-5666 uart-2: Parity error'
+    judge "sigrok-damaged.txt" is_refused 'ninecheck convert sigrok: line 10: a damaged byte: 5613-5666 uart-2: Parity error'
 }
 
 # The lines that a log with coarse stamps, and one with whole seconds alone, has on standard error.
@@ -55,9 +59,9 @@ whole='ninecheck convert log: all times are whole numbers, and were read as seco
 # judge_good NAME: the last run made $work/want, and said what belongs to a log that is called coarse or whole.
 judge_good() {
     case $1 in
-        coarse*) judge "$awk: $1" is_made_with "$coarse" ;;
-        whole*) judge "$awk: $1" is_made_with "$whole" ;;
-        *) judge "$awk: $1" is_made "$work/want" ;;
+        coarse*) judge "$1" is_made_with "$coarse" ;;
+        whole*) judge "$1" is_made_with "$whole" ;;
+        *) judge "$1" is_made "$work/want" ;;
     esac
 }
 
@@ -96,6 +100,11 @@ saleae: names that are numbers|saleae|--controller 1 --deck 01|name,type,start_t
 saleae: powers of ten|saleae|--controller A --deck B|name,type,start_time,duration,data,error\nA,data,9e-08,1,0x20,\nA,data,8.672e-05,1,0x01,\nA,data,1.5E+1,1,0x21,\nB,data,12345e-3,1,0x10,\n|0,C,20\n86,C,01\n12345000,D,10\n15000000,C,21\n
 saleae: times below 0|saleae|--controller A --deck B|name,type,start_time,duration,data,error\nA,data,-1.2500005,1,0x20,\nA,data,-0.0000001,1,0x01,\nB,data,0,1,0x10,\n|749999,C,20\n1999999,C,01\n2000000,D,10\n
 saleae: times below 0 on the deck's wire alone|saleae|--controller A --deck B|name,type,start_time,duration,data,error\nA,data,0.25,1,0x20,\nB,data,-1,1,0x10,\n|0,D,10\n1250000,C,20\n
+saleae: empty lines|saleae|--controller A --deck B|name,type,start_time,duration,data,error\n\nA,data,1,1,0x20,\n\r\nA,data,2,1,0x01,\n\n|1000000,C,20\n2000000,C,01\n
+saleae: a byte order mark|saleae|--controller A --deck B|\357\273\277name,type,start_time,duration,data,error\nA,data,1,1,0x20,\n|1000000,C,20\n
+saleae: a byte order mark, and a first title in quotes|saleae|--controller A --deck B|\357\273\277"name","type","start_time","duration","data","error"\nA,data,1,1,0x20,\n|1000000,C,20\n
+saleae: a byte that is not UTF-8, in a column that is passed over|saleae|--controller A --deck B|name,type,start_time,duration,data,error,note\nA,data,1,1,0x20,,Ger\344t\n|1000000,C,20\n
+saleae: a name that is not ASCII|saleae|--controller Gerät --deck B|name,type,start_time,duration,data,error\n"Ger\303\244t",data,1,1,0x20,""\n|1000000,C,20\n
 saleae: CRLF in two older files|saleae||Time [s],Value,Parity Error,Framing Error\r\n1.5,0x20,,\r\nTime [s],Value,Parity Error,Framing Error\r\n1.25,0x10,,\r\n|1250000,D,10\n1500000,C,20\n
 saleae: an older file without a byte|saleae||Time [s],Value,Parity Error,Framing Error\nTime [s],Value,Parity Error,Framing Error\n1.25,0x10,,\n|1250000,D,10\n
 sigrok: zeros in front|sigrok|--samplerate 1000000|010-218 uart-1: 20\n|10,C,20\n
@@ -108,7 +117,7 @@ sigrok: the mark of a byte before the stretch stands in it|sigrok|--samplerate 1
 sigrok: a break up to the stretch|sigrok|--samplerate 1000000 --from 0.001|5-1000 uart-1: Break condition\n1000-1208 uart-1: 21\n|1000,C,21\n
 sigrok: a stretch in samples that are no whole microseconds|sigrok|--samplerate 24000000 --from 0.000002 --to 0.000003|47-5047 uart-1: FF\n48-5048 uart-1: 20\n71-5071 uart-1: 01\n72-5072 uart-1: FE\n|2,C,20\n2,C,01\n
 saleae: a stretch, with damage before and after|saleae|--controller A --deck B --from 1 --to 2.5|name,type,start_time,duration,data,error\nA,data,0.9999999,1,0x20,framing\nA,data,1.0,1,0x21,\nB,break,0.5,1,,\nB,data,2.4999999,1,0x10,\nB,data,2.5,1,0x11,parity\nC,data,3,1,?,\n|1000000,C,21\n2499999,D,10\n
-saleae: a stretch below 0|saleae|--controller A --deck B --from -1.5 --to -0.5|name,type,start_time,duration,data,error\nA,data,-1.5000001,1,0x20,\nA,data,-1.5,1,0x21,\nB,data,-0.5000001,1,0x10,\nB,data,-0.5,1,0x11,\n|500000,C,21\n1499999,D,10\n
+saleae: a stretch below 0|saleae|--controller A --deck B --from=-1.5 --to=-0.5|name,type,start_time,duration,data,error\nA,data,-1.5000001,1,0x20,\nA,data,-1.5,1,0x21,\nB,data,-0.5000001,1,0x10,\nB,data,-0.5,1,0x11,\n|500000,C,21\n1499999,D,10\n
 saleae: times below 0 outside of the stretch move nothing|saleae|--controller A --deck B --from 0|name,type,start_time,duration,data,error\nA,data,-2,1,0x20,\nB,data,1,1,0x10,\n|1000000,D,10\n
 saleae: a stretch of two older files|saleae|--from 1.25|Time [s],Value,Parity Error,Framing Error\n1,0x20,,Error\n1.5,0x21,,\nTime [s],Value,Parity Error,Framing Error\n1,0x10,Error,\n1.25,0x11,,\n|1250000,D,11\n1500000,C,21\n
 coarse log: a stretch that begins and ends inside a line|log|--controller A --deck B --from 1.000287 --to 2.0002870|0.5 C 2?\n1 A 2! 01 21\n2 B 10 1!\n2.5 A !!\n|1000287,C,01\n1000574,C,21\n2000000,D,10\n
@@ -162,7 +171,7 @@ bad_exports() {
     while IFS='|' read -r name converter words line what text; do
         printf "$text" > "$work/in"
         convert "$converter" "$words" < "$work/in"
-        judge "$awk: $name" is_refused "ninecheck convert $converter: line $line: $what"
+        judge "$name" is_refused "ninecheck convert $converter: line $line: $what"
     done <<'END'
 sigrok: no rate|sigrok||0|--samplerate SAMPLES_A_SECOND is missing, or wrong|5-213 uart-1: 20\n
 sigrok: a rate with a letter|sigrok|--samplerate 1m|0|--samplerate SAMPLES_A_SECOND is missing, or wrong|5-213 uart-1: 20\n
@@ -173,6 +182,7 @@ sigrok: a parity error|sigrok|--samplerate 1000000|2|a damaged byte: 5-9 uart-2:
 sigrok: a framing error|sigrok|--samplerate 1000000|2|a damaged byte: 5-9 uart-1: Frame error|5-213 uart-1: 20\n5-9 uart-1: Frame error\n
 sigrok: a broken line|sigrok|--samplerate 1000000|2|a damaged byte: 5-9 uart-1: Break condition|5-213 uart-1: 20\n5-9 uart-1: Break condition\n
 sigrok: a third decoder|sigrok|--samplerate 1000000|1|unknown line: 5-9 uart-3: 20|5-9 uart-3: 20\n
+sigrok: a line that is not UTF-8|sigrok|--samplerate 1000000|1|unknown line: ��5-9 uart-1: 20|\377\3765-9 uart-1: 20\n
 sigrok: no sample numbers|sigrok|--samplerate 1000000|1|unknown line: uart-1: 20|uart-1: 20\n
 sigrok: an export that was cut short|sigrok|--samplerate 1000000|2|unknown line: 6-9 uart-1: 0|5-213 uart-1: 20\n6-9 uart-1: 0
 sigrok: a wire that goes back|sigrok|--samplerate 1000000|3|a time below the one before on this wire: 5-213 uart-1: 01|6-214 uart-1: 20\n5-213 uart-2: 10\n5-213 uart-1: 01\n
@@ -195,7 +205,10 @@ saleae: a byte that is not hexadecimal|saleae|--controller A --deck B|2|no byte 
 saleae: a time of day|saleae|--controller A --deck B|2|a time of day: export again with times in seconds, not as ISO 8601: A,data,2024-01-01T00:00:00Z,1,0x20,|name,type,start_time,duration,data,error\nA,data,2024-01-01T00:00:00Z,1,0x20,\n
 saleae: a time too great|saleae|--controller A --deck B|2|a time of more than fifteen digits: A,data,1e+9,1,0x20,|name,type,start_time,duration,data,error\nA,data,1e+9,1,0x20,\n
 saleae: an export that was cut short|saleae|--controller A --deck B|3|not as many fields as the header: A,data,2,1,0x0|name,type,start_time,duration,data,error\nA,data,1,1,0x20,\nA,data,2,1,0x0
-saleae: an empty line|saleae|--controller A --deck B|3|not as many fields as the header: |name,type,start_time,duration,data,error\nA,data,1,1,0x20,\n\n
+saleae: damage after an empty line is told at that line|saleae|--controller A --deck B|3|a damaged byte: A,data,2,1,0x01,parity|name,type,start_time,duration,data,error\nA,data,1,1,0x20,\n\nA,data,2,1,0x01,parity\n
+saleae: damage in a table with CRLF|saleae|--controller A --deck B|3|a damaged byte: A,data,2,1,0x01,parity|name,type,start_time,duration,data,error\r\nA,data,1,1,0x20,\r\nA,data,2,1,0x01,parity\r\n
+saleae: a row in quotes is shown without them|saleae|--controller A --deck B|2|neither the controller's analyzer nor the deck's: C,data,1,1,0x20,|name,type,start_time,duration,data,error\n"C","data","1","1","0x20",""\n
+saleae: a name that is not UTF-8|saleae|--controller A --deck B|2|neither the controller's analyzer nor the deck's: Ger�t,data,1,1,0x20,|name,type,start_time,duration,data,error\nGer\344t,data,1,1,0x20,\n
 saleae: a wire that goes back|saleae|--controller A --deck B|4|a time below the one before on this wire: A,data,1,1,0x01,|name,type,start_time,duration,data,error\nA,data,2,1,0x20,\nB,data,1,1,0x10,\nA,data,1,1,0x01,\n
 saleae: the older file of one wire alone|saleae||2|the deck's file is missing|Time [s],Value,Parity Error,Framing Error\n1,0x20,,\n
 saleae: a third older file|saleae||3|a third file begins: Time [s],Value,Parity Error,Framing Error|Time [s],Value,Parity Error,Framing Error\nTime [s],Value,Parity Error,Framing Error\nTime [s],Value,Parity Error,Framing Error\n
@@ -207,6 +220,7 @@ log: a line without a byte|log|--controller A --deck B|2|unknown line: 2 A|1 A 2
 log: an empty line|log|--controller A --deck B|2|unknown line: |1 A 20\n\n
 log: a decimal comma|log|--controller A --deck B|1|no time in seconds: 1,5 A 20|1,5 A 20\n
 log: another port|log|--controller A --deck B|2|neither the controller's port nor the deck's: 2 C 20|1 A 20\n2 C 20\n
+log: a port that is not UTF-8|log|--controller A --deck B|1|neither the controller's port nor the deck's: 1 Ger�t 20|1 Ger\344t 20\n
 log: a byte that is marked|log|--controller A --deck B|2|no byte of two hexadecimal digits: 2 A 01 21! 20|1 A 20\n2 A 01 21! 20\n
 log: a line before the last one at its port|log|--controller A --deck B|2|a time below the one before on this wire: 1.4 A 21|1.5 A 20\n1.4 A 21\n
 log: a line before the last one at its port, and more lines|log|--controller A --deck B|2|a time below the one before on this wire: 1.4 A 21|1.5 A 20\n1.4 A 21\n1.6 A 22\n1.7 A 23\n
@@ -304,7 +318,7 @@ stopped_logs() {
         printf "$text" > "$work/in"
         printf "time_us,wire,byte\n$rows" > "$work/want"
         convert log "--controller A --deck B --live $words" < "$work/in"
-        judge "$awk: live: $name" is_stopped "ninecheck convert log: line $line: $what"
+        judge "live: $name" is_stopped "ninecheck convert log: line $line: $what"
     done <<'END'
 one port after the other, and one time||3|a time before the line before, which --live can't put in its place: 1.000001 A 20 01|2.000001 B 10 01\n3.000001 B 11\n1.000001 A 20 01\n3.000001 A 21\n|2000001,D,10\n2000288,D,01\n3000001,D,11\n
 one port after the other, with dates||2|a time before the line before, which --live can't put in its place: 2024-03-01 12:00:00.000 A 20|2024-03-01 12:00:01.000 B 10\n2024-03-01 12:00:00.000 A 20\n|43201000000,D,10\n
@@ -322,79 +336,127 @@ seconds since 1970||2|a time of more than fifteen digits: 1700000000.5 A 20|1 A 
 END
 }
 
-# A name that is not UTF-8, where the letters of the locale are.
-latin_name() {
-    printf 'name,type,start_time,duration,data,error\n"Ger\344t",data,1,1,0x20,""\n' > "$work/in"
-    printf 'time_us,wire,byte\n1000000,C,20\n' > "$work/want"
-    LC_ALL=C.UTF-8 convert saleae "--controller $(printf 'Ger\344t') --deck B" < "$work/in"
-    judge "$awk: saleae: a name that is not UTF-8" is_made "$work/want"
+# An older export in two files: the controller's may end without a line feed, and the second begins with a header of its own.
+two_files() {
+    local header='Time [s],Value,Parity Error,Framing Error\n' text
+    printf "time_us,wire,byte\n1250000,D,10\n1500000,C,20\n" > "$work/want"
+    printf "${header}1.25,0x10,," > "$work/deck.csv"
+    for text in "${header}1.5,0x20,,\n" "${header}1.5,0x20,," "\357\273\277${header}1.5,0x20,,\n"; do
+        printf "$text" > "$work/controller.csv"
+        run convert saleae "$work/controller.csv" "$work/deck.csv" < /dev/null
+        judge "two files: $text" is_made "$work/want"
+    done
+    printf "\357\273\277${header}1.25,0x10,,\n" > "$work/deck.csv"
+    run convert saleae "$work/controller.csv" "$work/deck.csv" < /dev/null
+    judge 'two files, each with a byte order mark' is_made "$work/want"
+    printf "${header}1.5,0x20,,\n1.75,0x01,,Error" > "$work/controller.csv"
+    run convert saleae "$work/controller.csv" "$work/deck.csv" < /dev/null
+    judge 'two files, the first damaged' is_refused 'ninecheck convert saleae: line 3: a damaged byte: 1.75,0x01,,Error'
+    run convert saleae "$work/controller.csv" "$work/none.csv" < /dev/null
+    judge 'no second file' is_text 4 '' "cannot open
+$work/none.csv: No such file or directory"
 }
 
-# The rows of a line are there once the next line has come, while the log is still open. mawk has to be told to read it line by line.
+# The rows of a line are there once the next line has come, while the log is still open.
 open_log() {
     rm -f "$work/log"
     mkfifo "$work/log"
-    "$(script_under "$awk")" convert log --live --controller A --deck B \
-        < "$work/log" > "$work/out" 2> "$work/err" &
+    "$program" convert log --live --controller A --deck B < "$work/log" > "$work/out" 2> "$work/err" &
     exec 3> "$work/log"
     printf '0.000426 A 20 01\n0.001900 B 10\n' >&3
-    judge "$awk: an open log, its first line" is_soon 'time_us,wire,byte\n426,C,20\n713,C,01\n'
+    judge "an open log, its first line" is_soon 'time_us,wire,byte\n426,C,20\n713,C,01\n'
     printf '0.002187 B 01\n' >&3
-    judge "$awk: an open log, its second line" is_soon 'time_us,wire,byte\n426,C,20\n713,C,01\n1900,D,10\n'
+    judge "an open log, its second line" is_soon 'time_us,wire,byte\n426,C,20\n713,C,01\n1900,D,10\n'
     exec 3>&-
     wait $!
     status=$?
     printf 'time_us,wire,byte\n426,C,20\n713,C,01\n1900,D,10\n2187,D,01\n' > "$work/want"
-    judge "$awk: an open log, once it has ended" is_made "$work/want"
+    judge "an open log, once it has ended" is_made "$work/want"
 }
 
 # is_soon TEXT: within twenty seconds this is what was made, with printf's escapes.
 is_soon() {
-    local look
     printf "$1" > "$work/want"
-    for look in {1..400}; do
+    for _ in {1..400}; do
         ! cmp -s "$work/out" "$work/want" || return 0
         sleep 0.05
     done
     return 1
 }
 
-# A log of 80,000 bytes in 12 MB of memory, in which no awk can keep so many.
+# A log of 3,200,000 bytes in 64 MB of memory, in which not so many can be kept.
 long_log() {
     awk 'BEGIN {
-        for (k = 1; k <= 5000; k++) printf "%d.000001 %s 20 01 21 22 23 24 25 26 27 28 29 2A 2B 2C 2D 2E\n", k, k % 3 ? "A" : "B"
+        for (k = 1; k <= 200000; k++) printf "%d.000001 %s 20 01 21 22 23 24 25 26 27 28 29 2A 2B 2C 2D 2E\n", k, k % 3 ? "A" : "B"
     }' > "$work/in"
     (
-        ulimit -v 12288
-        LC_ALL=C "$(script_under "$awk")" convert log --live --controller A --deck B < "$work/in" > "$work/out" 2> "$work/err"
+        ulimit -v 65536
+        "$program" convert log --live --controller A --deck B < "$work/in" > "$work/out" 2> "$work/err"
     )
     status=$?
-    judge "$awk: a long log, live" [ "$status" = 0 -a "$(wc -l < "$work/out")" = 80001 -a ! -s "$work/err" ]
+    judge 'a long log, live' [ "$status" = 0 -a "$(wc -l < "$work/out")" = 3200001 -a ! -s "$work/err" ]
+    (
+        ulimit -v 65536
+        "$program" convert log --controller A --deck B < "$work/in" > "$work/out" 2> "$work/err"
+    )
+    status=$?
+    judge 'a long log, whose bytes are kept' is_text 5 '' "$(both_lines 'out of memory')"
 }
 
-# A full device, with a capture that a pipe holds and with one that it does not: the rest is still to be written when the
-# first part of it was refused. Under its option --posix gawk does not tell what became of a pipe, so it runs without.
-full_device() {
-    local lines
+# Streams that fail, with a short capture and with a long one. What can be said of a full device is said; of a reader that has gone
+# nothing is.
+failed_streams() {
+    local lines words
     for lines in 17 20000; do
-        awk -v lines=$lines 'BEGIN { for (k = 1; k <= lines; k++) print k * 1000 "-" k * 1000 + 208 " uart-1: 20" }' > "$work/in"
-        "$(script_under "${awk% --posix}")" convert sigrok --samplerate 1000000 < "$work/in" > /dev/full 2> "$work/err"
-        status=$?
-        judge "$awk: a full device, $lines lines" [ "$status" = 4 ]
-        judge "$awk: the message of a full device, $lines lines" \
-            grep -q "^ninecheck convert sigrok: line $lines: the capture can't be written$" "$work/err"
-        log_of $lines > "$work/in"
-        "$(script_under "${awk% --posix}")" convert log --live --controller A --deck B < "$work/in" > /dev/full 2> "$work/err"
-        status=$?
-        judge "$awk: a full device, $lines lines live" [ "$status" = 4 ]
-        judge "$awk: the message of a full device, $lines lines live" \
-            grep -q "^ninecheck convert log: line $lines: the capture can't be written$" "$work/err"
+        while IFS= read -r words; do
+            export_of "${words%% *}" $lines > "$work/in"
+            # shellcheck disable=SC2086
+            "$program" convert $words < "$work/in" > /dev/full 2> "$work/err"
+            status=$?
+            judge "$words: a full device, $lines lines" says_write_fault
+            # shellcheck disable=SC2086
+            "$program" convert $words < "$work/in" >&- 2> "$work/err"
+            status=$?
+            judge "$words: standard output is closed, $lines lines" says_write_fault
+            # shellcheck disable=SC2086
+            into_closed "$program" convert $words
+            judge "$words: a reader that has gone, $lines lines" is_text 4 '' ''
+            # shellcheck disable=SC2086
+            into_closed ./ninecheck convert $words
+            judge "$words: a reader of the script that has gone, $lines lines" is_text 4 '' ''
+            # shellcheck disable=SC2086
+            run convert $words < .
+            judge "$words: a directory as input" is_text 4 '' "read fault
+the text can't be read to its end"
+            # shellcheck disable=SC2086
+            run convert $words examples < /dev/null
+            judge "$words: a directory" is_text 4 '' 'read fault at row 0
+examples: Is a directory'
+            # shellcheck disable=SC2086
+            run convert $words "$work/none" < /dev/null
+            judge "$words: no such file" is_text 4 '' "cannot open
+$work/none: No such file or directory"
+        done <<'END'
+sigrok --samplerate 1000000
+saleae --controller A --deck B
+log --controller A --deck B
+log --live --controller A --deck B
+END
     done
 }
 
-# log_of N: a log of so many lines of a byte, a millisecond apart.
-log_of() {
-    awk -v lines="$1" 'BEGIN { for (k = 1; k <= lines; k++) printf "%d.%06d A 20\n", k / 1000, k % 1000 * 1000 + 1 }'
+says_write_fault() {
+    [ "$status" = 4 ] && [ "$(head -n 1 "$work/err")" = 'write fault' ]
+}
+
+# export_of CONVERTER N: an export with so many lines of a byte.
+export_of() {
+    case $1 in
+        sigrok) awk -v lines="$2" 'BEGIN { for (k = 1; k <= lines; k++) print k * 1000 "-" k * 1000 + 208 " uart-1: 20" }' ;;
+        saleae) awk -v lines="$2" 'BEGIN { print "name,type,start_time,duration,data,error"
+            for (k = 1; k <= lines; k++) printf "A,data,%d.%06d,1,0x20,\n", k / 1000, k % 1000 * 1000 }' ;;
+        log) awk -v lines="$2" 'BEGIN { for (k = 1; k <= lines; k++) printf "%d.%06d A 20\n", k / 1000, k % 1000 * 1000 + 1 }' ;;
+    esac
 }
 
 # Reads 40 polls of a deck, whose bytes come 300 microseconds apart, as a log in whole milliseconds: a line for each byte, or for
@@ -416,13 +478,13 @@ coarse_logs() {
                 print ""
             }' > "$work/in"
         convert log '--controller A --deck B' < "$work/in"
-        judge "$awk: a log in milliseconds, a line for each of its $lines" [ "$status" = 0 ]
-        judge "$awk: what is said of it once" [ "$(cat "$work/err")" = "$coarse" ]
-        judge "$awk: it is a yes" is_verdict 0 'yes: records 320, exchanges 40, open 0'
+        judge "a log in milliseconds, a line for each of its $lines" [ "$status" = 0 ]
+        judge "what is said of it once" [ "$(cat "$work/err")" = "$coarse" ]
+        judge "it is a yes" is_verdict 0 'yes: records 320, exchanges 40, open 0'
         [ $lines = bytes ] || continue
         { head -n 1 "$work/out"; tail -n +2 "$work/out" | sort -s -t, -k1,1n -k2,2; } > "$work/sorted"
         mv "$work/sorted" "$work/out"
-        judge "$awk: with the controller first it is a no" is_no
+        judge "with the controller first it is a no" is_no
     done
 }
 
@@ -431,45 +493,41 @@ is_no() {
     grep -q '^no at record [0-9]*: P4 ' "$work/verdict"
 }
 
-# A reader that has gone, of each converter, with a capture that a pipe holds and with one that it does not.
-closed_early() {
-    local lines
-    for lines in 17 20000; do
-        awk -v lines=$lines 'BEGIN { for (k = 1; k <= lines; k++) print k * 1000 "-" k * 1000 + 208 " uart-1: 20" }' > "$work/in"
-        into_closed "$(script_under "$awk")" convert sigrok --samplerate 1000000
-        judge "$awk: sigrok: a reader that has gone, $lines lines" is_silent
-        log_of $lines > "$work/in"
-        into_closed "$(script_under "$awk")" convert log --controller A --deck B
-        judge "$awk: log: a reader that has gone, $lines lines" is_silent
-        into_closed "$(script_under "$awk")" convert log --live --controller A --deck B
-        judge "$awk: log: a reader that has gone, $lines lines live" is_silent
-        awk -v lines=$lines 'BEGIN { print "name,type,start_time,duration,data,error"
-            for (k = 1; k <= lines; k++) printf "A,data,%d.%06d,1,0x20,\n", k / 1000, k % 1000 * 1000 }' > "$work/in"
-        into_closed "$(script_under "$awk")" convert saleae --controller A --deck B
-        judge "$awk: saleae: a reader that has gone, $lines lines" is_silent
-    done
+# Words that the program refuses before it reads anything. What else words may look like is in tests/program.sh.
+wrong_words() {
+    local words
+    while IFS= read -r words; do
+        # shellcheck disable=SC2086
+        run convert $words < .
+        judge "the words 'convert $words'" [ "$status" = 2 -a ! -s "$work/out" -a -s "$work/err" ]
+    done <<'END'
+hex
+saleae --controller A --deck B --from -1.5
+saleae --from=1.5.5
+log --controller A --deck B --live=yes
+sigrok --samplerate
+sigrok --samplerate -1
+END
 }
 
-for awk in mawk 'gawk --posix' 'busybox awk'; do
-    stored_exports
-    good_exports
-    latin_name
-    bad_exports
-    stopped_logs
-    open_log
-    long_log
-    coarse_logs
-    full_device
-    closed_early
-done
+stored_exports
+good_exports
+bad_exports
+stopped_logs
+two_files
+open_log
+long_log
+coarse_logs
+failed_streams
+wrong_words
 
 # The commands of docs/CAPTURE.md that are to be copied, on the stored exports.
 commands=0
 while read -r command; do
-    export=${command##*examples/exports/}
-    export=${export%% *}
+    exported=${command##*examples/exports/}
+    exported=${exported%% *}
     (cd "$work" && ln -sf "$OLDPWD/ninecheck" "$OLDPWD/examples" . && sh -c "$command" 2> err)
-    judge "the page's command on $export" cmp "$work/capture.csv" "examples/exports/${export%.*}-capture.csv"
+    judge "the page's command on $exported" cmp "$work/capture.csv" "examples/exports/${exported%.*}-capture.csv"
     commands=$((commands + 1))
 done < <(sed -n 's/^    \(.* convert .*examples\/exports.*\)/\1/p' docs/CAPTURE.md)
 # Without column names each analyzer has a file of its own: both are named, the controller's first.

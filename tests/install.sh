@@ -52,9 +52,9 @@ known, of 1 exchanges: shown 0.0 %, in 0.0 %, out 0.0 %, local 0.0 %, ain 0.0 %,
 }
 
 # run_pages NAME ROOT: the commands of the installed pages on captures and on views, in a copy of the folder that has the
-# installed examples, converters and views, make what they make here.
+# installed examples make what they make here.
 run_pages() {
-    local name=$1 root=$2 command export commands=0
+    local name=$1 root=$2 command exported commands=0
     rm -rf "$work/a copy"
     cp -r "$root/share/ninecheck" "$work/a copy"
     while IFS= read -r command; do
@@ -64,11 +64,11 @@ run_pages() {
         commands=$((commands + 1))
         case $command in
             *examples/exports/*)
-                export=${command##*examples/exports/}
-                export=${export%% *}
-                cmp "$work/a copy/capture.csv" "examples/exports/${export%.*}-capture.csv" > "$work/out" 2>&1
+                exported=${command##*examples/exports/}
+                exported=${exported%% *}
+                cmp "$work/a copy/capture.csv" "examples/exports/${exported%.*}-capture.csv" > "$work/out" 2>&1
                 status=$?
-                judge "$name: the capture of $export" [ "$status" = 0 ] ;;
+                judge "$name: the capture of $exported" [ "$status" = 0 ] ;;
         esac
     done < <(sed -n 's#^    \./\(ninecheck convert .*examples/exports.*\)#\1#p' "$root/share/doc/ninecheck/CAPTURE.md"
         sed -n 's/^    \$ //p' "$root/share/doc/ninecheck/VIEWS.md" "$root/share/doc/ninecheck/JSON.md" | sed 's#\./ninecheck#ninecheck#g')
@@ -86,7 +86,7 @@ cp examples/play.csv "$work/a folder/capture.csv"
 chmod 755 "$work/a folder"
 copy="$work/copy of it"
 mkdir "$copy"
-cp -r Makefile make README.md ninecheck package convert view decks examples docs "$copy"
+cp -r Makefile make README.md ninecheck package view decks examples docs "$copy"
 mkdir -p "$copy/crates/ninecheck/out" "$copy/crates/words9/src"
 cp crates/words9/src/task.rt "$copy/crates/words9/src"
 chmod 700 "$copy"

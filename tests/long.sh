@@ -1,6 +1,6 @@
 #!/usr/bin/env bash
-# Judges captures of more than 4,000,000 rows: with --all to their end, and else to the row that is one too many. The last line is
-# 'N passed, M failed'.
+# Judges captures of more than 4,000,000 rows: with --all to their end, and else to the row that is one too many; and cuts one into
+# parts. The last line is 'N passed, M failed'.
 set -u
 cd "$(dirname "$0")/.." || exit 1
 . tests/lib/judge.sh
@@ -28,6 +28,8 @@ ends_so() {
 # 4,000,001 rows: 666,666 exchanges of six, and five of the next.
 records "$play" 666667 > "$work/whole.csv"
 head -n 4000002 "$work/whole.csv" > "$work/long.csv"
+run check < <(head -n 4000001 "$work/long.csv")
+expect 'as many rows as may be' 0 'yes: records 4000000, exchanges 666666, open 4' ''
 for words in check run why; do
     run $words "$work/long.csv"
     judge "$words of a row too many" is_refused 0
@@ -52,6 +54,18 @@ run why --all "$work/long.csv"
 expect 'why --all' 0 "$totals" ''
 run check --sync --all "$work/long.csv"
 expect 'check --sync --all' 0 'breaks 0: records 4000001, exchanges 666665, passed over 6, open 5' ''
+
+# Its parts: the last byte but one begins an exchange.
+(cd "$work" && "$program" split --to part long.csv) > "$work/out" 2> "$work/err"
+status=$?
+expect 'split' 0 'part-001.csv
+part-002.csv' ''
+run check "$work/part-001.csv"
+expect 'its first part' 0 'yes: records 3999996, exchanges 666666, open 0' ''
+run check "$work/part-002.csv"
+expect 'its second part' 0 'yes: records 5, exchanges 0, open 5' ''
+judge 'its parts have all rows' eval '{ cat "$work/part-001.csv" && tail -n +2 "$work/part-002.csv"; } | cmp -s - "$work/long.csv"'
+rm "$work"/part-*.csv
 
 # The last exchange whole, 4,000,002 rows, and then a second reply; then a row that can't be read.
 echo '1600001200,D,10' >> "$work/whole.csv"

@@ -1,5 +1,5 @@
 #!/usr/bin/env bash
-# Judges a folder of captures side by side with the commands of docs/MANY.md, as they stand there. The last line is
+# Judges a folder of captures side by side with the commands of docs/CAPTURE.md, as they stand there. The last line is
 # 'N passed, M failed'.
 set -u
 cd "$(dirname "$0")/.." || exit 1
@@ -29,7 +29,7 @@ mkdir "$work/bin" "$work/captures" "$work/captures/a night"
 ln -s "$program" "$work/bin/ninecheck"
 cp examples/play.csv examples/second-reply.csv "$work/captures"
 cp examples/late-reply.csv examples/bad-byte.csv examples/open-command.csv "$work/captures/a night"
-mapfile -t command < <(sed -n 's/^    \(find\|cut\|sed\)/\1/p' docs/MANY.md)
+mapfile -t command < <(sed -n '/^## Many captures/,$s/^    \(find\|cut\|sed\)/\1/p' docs/CAPTURE.md)
 page() {
     (cd "$work" && PATH="$work/bin:$PATH" sh -c "${command[$1]}") > "$work/out" 2>&1
 }

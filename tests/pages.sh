@@ -46,12 +46,12 @@ convert.sh;docs/CAPTURE.md;./ninecheck convert sigrok --samplerate 2000000 --fro
 refuse;docs/CAPTURE.md;ninecheck convert sigrok: line 10:
 split;docs/CAPTURE.md;./ninecheck split --to part
 judge_it;docs/CAPTURE.md;./ninecheck check capture.csv
+many.sh;docs/CAPTURE.md;find captures
+text;docs/CAPTURE.md;1 captures/tuesday.csv:
+many.sh;docs/CAPTURE.md;find captures
+many.sh;docs/CAPTURE.md;cut
 text;docs/DECKS.md;# an edit deck
 text;docs/DECKS.md;unreadable deck sheet
-many.sh;docs/MANY.md;find captures
-text;docs/MANY.md;1 captures/tuesday.csv:
-many.sh;docs/MANY.md;find captures
-many.sh;docs/MANY.md;cut
 text;docs/OUTPUT.md;record N: COMMAND
 text;docs/OUTPUT.md;records A to B at T: COMMAND BYTES -> REPLY, delay D
 text;docs/OUTPUT.md;record N: goal G
@@ -104,7 +104,7 @@ refuse_view() {
 
 # take_block: the block whose lines are in ${block[@]}, of which the first has a dollar sign or not.
 take_block() {
-    local line command= found
+    local line command='' found
     case ${block[0]} in
         '$ '*)
             for line in "${block[@]}" '$ '; do

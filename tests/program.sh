@@ -249,6 +249,25 @@ err|check -V|error: unexpected argument '-V' found
 err|frob --version|error: unrecognized subcommand 'frob'
 err|--version=1|error: unexpected value '1' for '--version' found; no more were expected
 err|--versions|  tip: a similar argument exists: '--version'
+err|convert|error: unrecognized subcommand 'convert'
+err|convert hex|error: unrecognized subcommand 'convert'
+err|convert --help|error: unrecognized subcommand 'convert'
+err|help convert|error: unrecognized subcommand 'convert'
+err|convert sigrok --samplerate 1 a b|error: unexpected argument 'b' found
+err|convert sigrok --live|error: unexpected argument '--live' found
+err|convert saleae a b c|error: unexpected argument 'c' found
+err|convert log a b|error: unexpected argument 'b' found
+err|convert log --live --live|error: the argument '--live' cannot be used multiple times
+err|convert log --hands|error: unexpected argument '--hands' found
+err|convert log --live=yes|error: unexpected value 'yes' for '--live' found; no more were expected
+err|convert sigrok --samplerate|error: a value is required for '--samplerate <N>' but none was supplied
+err|convert sigrok --to|error: a value is required for '--to <SECONDS>' but none was supplied
+err|convert saleae --deck|error: a value is required for '--deck <ANALYZER>' but none was supplied
+err|convert log --deck|error: a value is required for '--deck <PORT>' but none was supplied
+err|split --to|error: a value is required for '--to <NAME>' but none was supplied
+err|split a b|error: unexpected argument 'b' found
+err|split --all|error: unexpected argument '--all' found
+err|split --to a --to b|error: the argument '--to <NAME>' cannot be used multiple times
 out|-h --version|Usage: ninecheck <COMMAND>
 out|--help|  -V, --version  Print version
 out|--help|Usage: ninecheck <COMMAND>
@@ -265,12 +284,17 @@ out|run --help|Usage: ninecheck run [OPTIONS] [FILE]
 out|help run|Usage: ninecheck run [OPTIONS] [FILE]
 out|why --help|Usage: ninecheck why [OPTIONS] [FILE]
 out|help why|Usage: ninecheck why [OPTIONS] [FILE]
+out|convert sigrok --help|Usage: ninecheck convert sigrok [OPTIONS] [FILE]
+out|convert saleae --help|Usage: ninecheck convert saleae [OPTIONS] [FILE] [DECK-FILE]
+out|convert log -h|Usage: ninecheck convert log [OPTIONS] [FILE]
+out|split --help|Usage: ninecheck split [OPTIONS] [FILE]
+out|help split|Usage: ninecheck split [OPTIONS] [FILE]
 END
 run --help < /dev/null
 sed -n '/^Commands:/,/^$/s/^  \([a-z]*\( [a-z][a-z]*\)*\)  .*/\1/p' "$work/out" | tr '\n' ',' > "$work/text"
 judged=$(cat "$work/text")
 echo "$judged" > "$work/out"
-expect 'the subcommands that the help lists' 2 'check,explain,run,why,digest,delays,motion,json,json check,json explain,json run,json why,clock,info,try,picture,page,help,' ''
+expect 'the subcommands that the help lists' 2 'check,explain,run,why,digest,delays,motion,json,json check,json explain,json run,json why,clock,info,try,picture,page,convert sigrok,convert saleae,convert log,split,help,' ''
 run "$(printf '\377')" < examples/play.csv
 expect 'a word that is not UTF-8' 2 '' 'error: a word of the command line is not UTF-8
 pass a file with such a name on standard input: ninecheck check < FILE'

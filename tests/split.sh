@@ -1,56 +1,71 @@
 #!/usr/bin/env bash
-# Cuts captures into parts, under each awk, and has the built program judge them. The last line is
-# 'N passed, M failed'.
+# Has the built program cut captures into parts, and judge them. The last line is 'N passed, M failed'.
 set -u
 cd "$(dirname "$0")/.." || exit 1
-. tests/lib/tools.sh
-need_tools mawk gawk busybox
 . tests/lib/judge.sh
 . tests/lib/program.sh
 . tests/lib/errors.sh
 . tests/lib/blocks.sh
-. tests/lib/awk.sh
 . tests/lib/closed.sh
-top=$PWD
+
+parts=$work/parts
 
 # split_into TEXT NAME WORDS...: the parts of this capture, with printf's escapes, in a folder of their own.
 split_into() {
-    printf "$1" > "$work/in"
-    split_file "$work/in" "${@:2}"
+    rm -rf "$parts"
+    mkdir "$parts"
+    split_beside "$@"
 }
 
-# split_file FILE NAME WORDS...: the parts of the capture in this file.
-split_file() {
-    local file=$1 name=$2
-    shift 2
-    rm -rf "$work/parts"
-    mkdir "$work/parts"
-    (cd "$work/parts" && "$(cd "$top" && script_under "$awk")" split --to "$name" "$@" "$file") > "$work/out" 2> "$work/err"
+# split_beside TEXT NAME WORDS...: the same, in the folder as it is.
+split_beside() {
+    printf "$1" > "$work/in"
+    split_words --to "$2" "${@:3}" "$work/in"
+}
+
+# split_words WORDS...: a split with these words, in the folder of the parts.
+split_words() {
+    (cd "$parts" && "$program" split "$@") > "$work/out" 2> "$work/err"
     status=$?
 }
 
 # is_split WANT...: it said nothing but the names of these parts, which it made, and they are these texts.
 is_split() {
-    local want name k=0
-    [ "$status" = 0 ] && [ ! -s "$work/err" ] || return 1
-    [ "$(ls "$work/parts" | wc -l)" = $# ] || return 1
-    for want in "$@"; do
-        k=$((k + 1))
-        name=$(sed -n "${k}p" "$work/out")
-        printf "time_us,wire,byte\n$want" | cmp - "$work/parts/$name" || return 1
+    [ "$status" = 0 ] && [ ! -s "$work/err" ] && [ "$(wc -l < "$work/out")" = $# ] && has_parts "$@" || return 1
+    [ "$(cd "$parts" && ls -- *)" = "$(cat "$work/out")" ]
+}
+
+# has_parts WANT...: there are these parts and no others, in the order of their names.
+has_parts() {
+    local part want=("$@")
+    [ "$(ls "$parts" | wc -l)" = $# ] || return 1
+    for part in "$parts"/*; do
+        printf "time_us,wire,byte\n${want[0]}" | cmp - "$part" || return 1
+        want=("${want[@]:1}")
     done
 }
 
-# is_refused LINE: the line is on standard error, nothing is on standard output, and no part is left.
+# is_refused STATUS LINES: this is on standard error, nothing is on standard output, and no part is left.
 is_refused() {
-    local want=3
-    case $1 in *': --'*) want=2 ;; esac
-    [ "$status" = $want ] && [ ! -s "$work/out" ] && [ "$(cat "$work/err")" = "$1" ] && [ -z "$(ls "$work/parts")" ]
+    is_text "$1" '' "$2" && [ -z "$(ls "$parts")" ]
 }
 
-# is_refused_last LINE: the same, after what the shell says.
-is_refused_last() {
-    [ "$status" = 4 ] && [ ! -s "$work/out" ] && [ "$(tail -n 1 "$work/err")" = "$1" ] && [ -z "$(ls "$work/parts")" ]
+# ends_as_check: the run before on $work/in ended as `check` does, and no part is left.
+ends_as_check() {
+    local ended=$status
+    [ ! -s "$work/out" ] && [ -z "$(ls "$parts")" ] || return 1
+    cp "$work/err" "$work/said"
+    run check "$work/in"
+    [ "$status" = "$ended" ] && cmp "$work/err" "$work/said"
+}
+
+# begins_as WANT...: there are these parts and no others, but of the last one there may be less.
+begins_as() {
+    local last=${!#} part
+    part=$(printf "$parts/part-%03d.csv" $#)
+    printf "time_us,wire,byte\n$last" | head -c "$(wc -c < "$part")" | cmp - "$part" || return 1
+    printf "time_us,wire,byte\n$last" > "$part"
+    has_parts "$@"
 }
 
 # Two exchanges of three and three rows, and an open command of one.
@@ -59,53 +74,156 @@ second='11,C,20\n12,C,00\n13,C,20\n14,D,10\n15,D,01\n16,D,11\n'
 open='21,C,61\n'
 capture="time_us,wire,byte\n$first$second$open"
 
-for awk in mawk 'gawk --posix' 'busybox awk'; do
-    split_into "$capture" part
-    judge "$awk: a short capture is one part" is_split "$first$second$open"
-    judge "$awk: the names" [ "$(cat "$work/out")" = part-001.csv ]
-    split_into "$capture" "it's a part" --rows 7
-    judge "$awk: an exchange is not cut" is_split "$first" "$second$open"
-    judge "$awk: names with blanks and marks" [ "$(cat "$work/out")" = "it's a part-001.csv
+split_into "$capture" part
+judge 'a short capture is one part' is_split "$first$second$open"
+judge 'its name' [ "$(cat "$work/out")" = part-001.csv ]
+split_into "$capture" "it's a part" --rows 7
+judge 'an exchange is not cut' is_split "$first" "$second$open"
+judge 'names with blanks and marks' [ "$(cat "$work/out")" = "it's a part-001.csv
 it's a part-002.csv" ]
-    split_into "$capture" part --rows 6
-    judge "$awk: full parts" is_split "$first" "$second" "$open"
-    split_into "${capture//\\n/\\r\\n}" part --rows 12
-    judge "$awk: CRLF" is_split "$first$second" "$open"
-    split_into 'time_us,wire,byte\n' part
-    judge "$awk: a header alone is one part" is_split ''
-    split_into "$capture" part --rows 5
-    judge "$awk: no place to cut" is_refused 'ninecheck split: line 7: no place between exchanges in 5 rows'
-    split_into "$capture" '' --rows 5
-    judge "$awk: no name" is_refused 'ninecheck split: line 0: --to NAME is missing'
-    split_into "$capture" part --rows 4000001
-    judge "$awk: too many rows asked for" is_refused 'ninecheck split: line 0: --rows is no number from 1 to 4000000: 4000001'
-    split_into '1,C,20\n' part
-    judge "$awk: no header" is_refused 'ninecheck split: line 1: expected the header time_us,wire,byte: 1,C,20'
-    split_into '' part
-    judge "$awk: nothing at all" is_refused 'ninecheck split: line 0: expected the header time_us,wire,byte'
-    # Under its option --posix gawk does not tell what became of a pipe, so it runs without.
-    awk=${awk% --posix} split_into "$capture" none/part
-    judge "$awk: a folder that is not there" is_refused_last \
-        "ninecheck split: line 14: the part none/part-001.csv can't be written"
-    # The names go to standard output by themselves, so each awk tells what became of them.
-    printf "$capture" > "$work/in"
-    into_closed "$(script_under "$awk")" split --to "$work/parts/part" --rows 6
-    judge "$awk: a reader of the names that has gone" [ "$status" = 141 -a ! -s "$work/err" ]
-    split_into "$capture"'22,C\n' part --rows 6
-    judge "$awk: a bad row, and no part is left" is_refused 'ninecheck split: line 15: no row of a time, a wire and a byte: 22,C'
-done
+split_into "$capture" part --rows 6
+judge 'full parts' is_split "$first" "$second" "$open"
+split_into 'time_us,wire,byte\n' part
+judge 'a header alone is one part' is_split ''
+split_into 'time_us,wire,byte\n1,D,10\n2,C,20\n3,C,01\n' part --rows 2
+judge 'a capture that begins with the deck' is_split '1,D,10\n' '2,C,20\n3,C,01\n'
 
-# A capture of one row more than may be judged, of which each part is: the last byte but one begins an exchange.
-records "$play" 666667 | head -n 4000002 > "$work/long.csv"
-"$program" check "$work/long.csv" > "$work/out" 2>&1
-judge 'a capture that is too long' [ "$(cat "$work/out")" = "$(both_lines 'unreadable at row 4000001: too many rows')" ]
-head -n 4000001 "$work/long.csv" | "$program" check > "$work/out" 2>&1
-judge 'a capture of as many rows as may be judged' [ "$(cat "$work/out")" = 'yes: records 4000000, exchanges 666666, open 4' ]
-awk=awk
-split_file "$work/long.csv" part
-judge 'its parts' [ "$(cat "$work/out")" = 'part-001.csv
-part-002.csv' ]
-judge 'its first part' [ "$("$program" check "$work/parts/part-001.csv")" = 'yes: records 3999996, exchanges 666666, open 0' ]
-judge 'its second part' [ "$("$program" check "$work/parts/part-002.csv")" = 'yes: records 5, exchanges 0, open 5' ]
+# Other ways to name the parts and the capture.
+rm "$parts"/*
+split_words "$work/in" --rows=2 --to=-x
+judge 'a name that begins with a minus sign' is_split '1,D,10\n' '2,C,20\n3,C,01\n'
+judge 'the names that begin with a minus sign' [ "$(cat "$work/out")" = '-x-001.csv
+-x-002.csv' ]
+rm "$parts"/*
+split_words --to "$parts/a part" --rows 2 < "$work/in"
+judge 'a name with its folder, and standard input' is_text 0 "$parts/a part-001.csv
+$parts/a part-002.csv" ''
+judge 'the parts of standard input' has_parts '1,D,10\n' '2,C,20\n3,C,01\n'
+
+# What `check` takes is taken, and a part is written in one form.
+split_into "${capture//\\n/\\r\\n}" part --rows 12
+judge 'CRLF' is_split "$first$second" "$open"
+split_into "\357\273\277$capture" part --rows 12
+judge 'a byte order mark' is_split "$first$second" "$open"
+split_into '\357\273\277\r\n"time_us",wire,"byte"\r\n\r\n"1","C",20\r\n\n0002,D,aB' part
+judge 'a byte order mark, quotes, blank lines, zeros in front, small digits and no line feed at the end' is_split '1,C,20\n2,D,AB\n'
+
+# What is refused before a part is begun.
+split_into "$capture" part --rows 5
+judge 'no place to cut' is_refused 3 'ninecheck split: line 7: no place between exchanges in 5 rows'
+split_into "$capture" '' --rows 5
+judge 'an empty name' is_refused 2 'ninecheck split: line 0: --to NAME is missing'
+split_words "$work/in"
+judge 'no name' is_refused 2 'ninecheck split: line 0: --to NAME is missing'
+for rows in 4000001 0 1x 99999999999999999999; do
+    split_into "$capture" part --rows $rows
+    judge "no number of rows: $rows" is_refused 2 "ninecheck split: line 0: --rows is no number from 1 to 4000000: $rows"
+done
+split_into "$capture" part --rows=
+judge 'an empty number of rows' is_split "$first$second$open"
+split_into "$capture" none/part
+judge 'a folder that is not there, told where the first part begins' is_refused 4 \
+    "ninecheck split: line 8: the part none/part-001.csv can't be written"
+split_into 'time_us,wire,byte\n1,C,20\n' none/part
+judge 'a folder that is not there, told at the end' is_refused 4 "ninecheck split: line 2: the part none/part-001.csv can't be written"
+while IFS='|' read -r name text; do
+    split_into "$text" part
+    judge "$name" [ "$status" = 3 ]
+    judge "$name, as check says it" ends_as_check
+done <<'END'
+no header|1,C,20\n
+nothing at all|
+another header|time,wire,byte\n1,C,20\n
+an export|name,type,start_time,duration,data,error\nA,data,1,1,0x20,\n
+a bad first row|time_us,wire,byte\n1,C\n
+a time that falls|time_us,wire,byte\n2,C,20\n1,C,01\n
+END
+split_words --to part "$work/none.csv"
+judge 'no such capture' is_refused 4 "cannot open
+$work/none.csv: No such file or directory"
+split_words --to part .
+judge 'a directory' is_refused 4 'read fault at row 0
+.: Is a directory'
+split_words --to part < .
+judge 'a directory as input' is_refused 4 "$(both_lines 'read fault at row 0')"
+
+# What stays where it ends early. The parts but the last are whole, and the last is the beginning of one.
+bad="unreadable at row @: fields
+expected three fields: time_us,wire,byte"
+split_into "time_us,wire,byte\n${first}11,C,20\n12,C\n" part --rows 6
+judge 'a bad row, and one part is left' is_text 3 '' "${bad/@/8}
+left behind: part-001.csv, which may not be whole"
+judge 'it begins as a part' begins_as "$first"
+split_into "${capture}22,C\n" part --rows 6
+judge 'a bad row, and two parts are left' is_text 3 '' "${bad/@/14}
+left behind: part-001.csv and part-002.csv, of which the last may not be whole"
+judge 'the second begins as a part' begins_as "$first" "$second"
+split_into "${capture}22,D,10\n23,C,20\n24,C\n" part --rows 6
+judge 'a bad row, and three parts are left' is_text 3 '' "${bad/@/16}
+left behind: part-001.csv to part-003.csv, of which the last may not be whole"
+judge 'the third begins as a part' begins_as "$first" "$second" "${open}22,D,10\n"
+split_into 'time_us,wire,byte\n1,C,20\n2,D,10\n3,C,20\n4,C,01\n5,D,10\n' part --rows 2
+judge 'no place to cut in the second part' is_text 3 '' 'ninecheck split: line 6: no place between exchanges in 2 rows
+left behind: part-001.csv, which may not be whole'
+
+# A file that is there already, whatever it is.
+rm -rf "$parts"
+mkdir "$parts"
+echo mine > "$parts/part-001.csv"
+split_beside "$capture" part --rows 6
+judge 'a first part that is there' is_text 4 '' 'ninecheck split: line 8: the part part-001.csv is there already, and is left as it is'
+judge 'it is left as it is' [ "$(cat "$parts"/*)" = mine ]
+mv "$parts/part-001.csv" "$parts/part-002.csv"
+split_beside "$capture" part --rows 6
+judge 'a second part that is there' is_text 4 '' 'ninecheck split: line 14: the part part-002.csv is there already, and is left as it is
+left behind: part-001.csv, which may not be whole'
+judge 'the second part is left as it is' [ "$(cat "$parts/part-002.csv")" = mine ]
+rm "$parts/part-002.csv"
+judge 'the first part is whole' has_parts "$first"
+split_beside "$capture" part
+judge 'a part of the split before' is_text 4 '' 'ninecheck split: line 8: the part part-001.csv is there already, and is left as it is'
+judge 'the part of the split before is left as it is' has_parts "$first"
+rm "$parts/part-001.csv"
+ln -s "$work/away" "$parts/part-001.csv"
+split_beside "$capture" part
+judge 'a link to nothing' is_text 4 '' 'ninecheck split: line 8: the part part-001.csv is there already, and is left as it is'
+judge 'nothing is made behind the link' [ ! -e "$work/away" ]
+rm "$parts/part-001.csv"
+mkdir "$parts/part-001.csv"
+split_beside "$capture" part
+judge 'a folder of that name' is_text 4 '' 'ninecheck split: line 8: the part part-001.csv is there already, and is left as it is'
+
+# A part that can be made, and not be written to its end: no file may be longer than one kilobyte.
+records "$play" 1000 > "$work/in"
+rm -rf "$parts"
+mkdir "$parts"
+(
+    cd "$parts" && trap '' XFSZ && ulimit -f 1
+    exec "$program" split --to part "$work/in" > "$work/out" 2> "$work/err"
+)
+status=$?
+sed -i 's/^ninecheck split: line [0-9]*: /ninecheck split: line @: /' "$work/err"
+judge 'a part that is not written to its end' is_text 4 '' "ninecheck split: line @: the part part-001.csv can't be written
+left behind: part-001.csv, which may not be whole"
+
+# The names of the parts, where they can't be written. The parts are whole then.
+printf "$capture" > "$work/in"
+says_write_fault() {
+    [ "$status" = 4 ] && [ "$(head -n 1 "$work/err")" = 'write fault' ] && has_parts "$first" "$second" "$open"
+}
+rm "$parts"/*
+"$program" split --to "$parts/part" --rows 6 "$work/in" > /dev/full 2> "$work/err"
+status=$?
+judge 'the names on a full device' says_write_fault
+rm "$parts"/*
+"$program" split --to "$parts/part" --rows 6 "$work/in" >&- 2> "$work/err"
+status=$?
+judge 'the names, where standard output is closed' says_write_fault
+for asked in "$program" ./ninecheck; do
+    rm "$parts"/*
+    into_closed "$asked" split --to "$parts/part" --rows 6
+    judge "a reader of the names that has gone, $asked" is_text 4 '' ''
+    judge "the parts of that, $asked" has_parts "$first" "$second" "$open"
+done
 
 tell_counts

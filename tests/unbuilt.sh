@@ -7,7 +7,7 @@ cd "$(dirname "$0")/.." || exit 1
 
 tree=$work/tree
 mkdir -p "$tree/crates/ninecheck/src" "$tree/a folder" "$work/bin" "$work/temporary"
-cp -r ninecheck ./make ./view ./convert "$tree/"
+cp -r ninecheck ./make ./view "$tree/"
 echo 'a capture' > "$tree/a folder/play.csv"
 (cd "$tree" && find . | LC_ALL=C sort) > "$work/before"
 first='ninecheck: not built yet: this answer comes from the same code with run-time checks and without its proof; `make` proves and builds it'
@@ -107,6 +107,32 @@ judge 'a record and a width in one word each' was_told "[picture][--at=4][--widt
 printf 'a row\n' | ask clock --seconds
 judge 'a text for the clock' was_told '[clock][--seconds]a row'
 
+# Exports and parts. The deck of an export is no sheet, and the parts are called by their whole paths, but told as they were asked for.
+printf 'a line\n' | ask convert sigrok --samplerate 2000000 --from 0.5 --to=2
+judge 'what the words of an export say is no file' was_told '[convert][sigrok][--samplerate][2000000][--from][0.5][--to=2]a line'
+printf 'a line\n' | ask convert log --controller A --deck B --unit ms --live
+judge 'the ports of a log are no files' was_told '[convert][log][--controller][A][--deck][B][--unit][ms][--live]a line'
+ask convert saleae controller.csv 'a folder/deck.csv' < /dev/null
+judge 'two files' was_told "[convert][saleae][$tree/controller.csv][$tree/a folder/deck.csv]"
+for words in 'convert' 'convert hex' 'convert --help'; do
+    # shellcheck disable=SC2086
+    echo 'a line' | ask $words
+    judge "no input for the words '$words'" was_told "[${words// /][}]"
+done
+stand_in 0 "$tree/a part-001.csv\n$tree/a part-002.csv\n" 'checked: ended status=0\nrun=ended status=0 runners=1 proved=no\n'
+printf 'a row\n' | ask split --to 'a part' --rows 7
+judge 'the parts of standard input' was_told "[split][--to][$tree/a part][--rows][7]a row"
+judge 'the names of the parts' is_text 0 'a part-001.csv
+a part-002.csv' "$first"
+ask split --to=-x --rows=7 'a folder/play.csv' < /dev/null
+judge 'parts whose names begin with a minus sign' was_told "[split][--to=$tree/-x][--rows=7][$tree/a folder/play.csv]"
+ask split 'a folder/play.csv' --to '' < /dev/null
+judge 'parts without a name' was_told "[split][$tree/a folder/play.csv][--to][]"
+stand_in 4 '' "ninecheck split: line 8: the part $tree/part-001.csv is there already, and is left as it is\nchecked: ended status=4\nrun=ended status=4 runners=1 proved=no\n"
+ask split --to part 'a folder/play.csv' < /dev/null
+judge 'a part that is there already' is_text 4 '' "$first
+ninecheck split: line 8: the part part-001.csv is there already, and is left as it is"
+
 # The words that ask the program ask the trial, and tell its first line once.
 ended='checked: ended status=0\nrun=ended status=0 runners=1 proved=no\n'
 stand_in 1 'no at record 4: L1 late reply\n' "$ended"
@@ -120,9 +146,6 @@ ask touches 'a folder/play.csv' < /dev/null
 judge 'touches without an answer' is_text 125 '' "$first
 ninecheck: no answer: it has over 1 MiB
 $advice"
-ask convert sigrok --samplerate 2000000 < examples/exports/sigrok.txt
-judge 'a converter asks nobody' eval '[ "$status" = 0 ] && cmp "$work/out" examples/exports/sigrok-capture.csv && [ ! -s "$work/err" ]'
-
 # No answer: why, and what to do.
 while IFS='|' read -r name checked why; do
     stand_in 6 '' "interpreter: no-answer: a call\nchecked: $checked\nrun=no-answer proved=no\n"
@@ -167,7 +190,7 @@ cp ninecheck "$work/installed/bin/"
 "$work/installed/bin/ninecheck" check > "$work/out" 2> "$work/err" < /dev/null
 status=$?
 judge 'an installation without its words' is_text 125 '' "ninecheck: $work/installed/share/ninecheck is missing: install it again"
-cp -r view convert "$work/installed/share/ninecheck"
+cp -r view "$work/installed/share/ninecheck"
 "$work/installed/bin/ninecheck" check > "$work/out" 2> "$work/err" < /dev/null
 status=$?
 judge 'an installation without its program' is_text 125 '' 'ninecheck: the program is missing: install it again'

@@ -1,6 +1,6 @@
 #!/usr/bin/env bash
-# Runs the words that make something of a report: what they make, what they take, and what becomes of a capture that can't be read,
-# under each awk and each shell. The last line is 'N passed, M failed'.
+# Runs the words of the script: what they make, what they take, and what becomes of a capture that can't be read, under each awk and
+# each shell. The last line is 'N passed, M failed'.
 set -u
 cd "$(dirname "$0")/.." || exit 1
 . tests/lib/tools.sh
@@ -67,8 +67,6 @@ touches absent.csv|4|@check absent.csv
 touches examples|4|@check examples
 touches --deck absent.toml examples/play.csv|4|@check --deck absent.toml examples/play.csv
 touches examples/play.csv examples/play.csv|2|error: unexpected argument 'examples/play.csv' found\n\nUsage: ninecheck touches [OPTIONS] [FILE]\n\nFor more information, try '--help'.
-convert hex|2|error: unrecognized export 'hex': sigrok, saleae and log are known\n\nUsage: ninecheck convert <sigrok|saleae|log> [OPTIONS] [FILE]\n\nFor more information, try '--help'.
-convert sigrok --samplerate 1 a b|2|error: unexpected argument 'b' found\n\nUsage: ninecheck convert sigrok --samplerate <N> [OPTIONS] [FILE]\n\nFor more information, try '--help'.
 END
 }
 
@@ -131,7 +129,7 @@ each_way() {
     closed_early
     judge "$shell, $awk: no file is left" [ -z "$(ls "$TMPDIR")" ]
 }
-awk=awk
+awk='awk'
 for shell in dash bash 'busybox sh'; do each_way; done
 shell=
 for awk in mawk 'gawk --posix' 'busybox awk'; do
@@ -140,7 +138,7 @@ for awk in mawk 'gawk --posix' 'busybox awk'; do
 done
 
 # By a symlink, from another folder.
-awk=awk
+awk='awk'
 ln -s "$PWD/ninecheck" "$work/linked"
 cp examples/views/session.csv "$work/capture.csv"
 (cd "$work" && ./linked digest capture.csv) > "$work/out" 2> "$work/err"
@@ -149,7 +147,7 @@ judge 'by a symlink' is_view 1 examples/views/session-digest.txt
 
 # Help: each word has its own, and `help` names it.
 nine=$PWD/ninecheck
-for word in check explain run why digest delays motion json clock info convert split try touches picture page; do
+for word in check explain run why digest delays motion json clock info try touches picture page split; do
     ask $word --help
     judge "$word --help" [ "$status" = 2 -a ! -s "$work/err" ]
     judge "$word --help has its usage" grep -q "^Usage: ninecheck $word " "$work/out"
@@ -165,9 +163,12 @@ judge 'help' [ "$status" = 2 -a ! -s "$work/err" ]
 "$PWD/crates/ninecheck/out/ninecheck" help > "$work/own"
 head -n "$(wc -l < "$work/own")" "$work/out" > "$work/first"
 judge 'help begins with what the program says' cmp "$work/first" "$work/own"
+cp "$work/out" "$work/want"
 for export in sigrok saleae log; do
     ask convert $export --help
-    judge "convert $export --help" grep -q "^Usage: ninecheck convert $export " "$work/out"
+    judge "convert $export --help" [ "$status" = 2 -a ! -s "$work/err" ]
+    judge "convert $export --help has its usage" grep -q "^Usage: ninecheck convert $export " "$work/out"
+    judge "help names convert $export" grep -q "^  convert $export  " "$work/want"
 done
 
 tell_counts

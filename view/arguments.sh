@@ -1,8 +1,7 @@
-# To be sourced by a word: takes its arguments apart. Before that it names its options, with blanks between them: in `takes` those of
-# its own that have a value, in `flags` those of its own that have none, in `passes_value` and in `passes` those of the program.
-# The latter stay in "$@", and of an option --NAME the variable own_NAME has the value, or `yes`. Other options stay in "$@" too,
-# for the program to refuse, or are refused here where `asks` is empty. `file` is the file, and `files` how many there are; a word
-# that takes several has each in "$@", after the options.
+# To be sourced by a word: takes its arguments apart. Before that it names its options, with blanks between them: in `flags` those of
+# its own, in `passes_value` and in `passes` those of the program, of which the former have a value. The latter stay in "$@", and of
+# an option --NAME the variable own_NAME has the value, or `yes`. Other options stay in "$@" too, for the program to refuse. `file` is
+# the file, and `files` how many there are.
 
 is_among() { case " $2 " in *" $1 "*) return 0 ;; esac; return 1; }
 
@@ -14,7 +13,7 @@ set_own() {
     eval "own_${1#--}=\$2"
 }
 
-for option in $takes $flags $passes_value $passes; do set_own "$option" ''; done
+for option in $flags $passes_value $passes; do set_own "$option" ''; done
 file='' files=0 awaits='' is_option=yes
 left=$#
 while [ "$left" -gt 0 ]; do
@@ -24,30 +23,26 @@ while [ "$left" -gt 0 ]; do
     option=${argument%%=*}
     if [ -n "$awaits" ]; then
         set_own "$awaits" "$argument"
-        ! is_among "$awaits" "$passes_value" || set -- "$@" "$argument"
+        set -- "$@" "$argument"
         awaits=''
     elif [ $is_option = no ] || [ "${argument#-?}" = "$argument" ]; then
         files=$((files + 1))
         file=$argument
-        [ -z "$takes_files" ] || set -- "$@" "$argument"
     elif [ "$argument" = -- ]; then
         is_option=no
     elif [ "$argument" = -h ] || [ "$argument" = --help ]; then
         show_help "$word"
-    elif is_among "$argument" "$takes $passes_value"; then
+    elif is_among "$argument" "$passes_value"; then
         awaits=$argument
-        ! is_among "$argument" "$passes_value" || set -- "$@" "$argument"
-    elif [ "$option" != "$argument" ] && is_among "$option" "$takes $passes_value"; then
-        set_own "$option" "${argument#*=}"
-        ! is_among "$option" "$passes_value" || set -- "$@" "$argument"
-    elif is_among "$argument" "$flags $passes"; then
-        set_own "$argument" yes
-        ! is_among "$argument" "$passes" || set -- "$@" "$argument"
-    elif [ -n "$asks" ]; then
         set -- "$@" "$argument"
+    elif [ "$option" != "$argument" ] && is_among "$option" "$passes_value"; then
+        set_own "$option" "${argument#*=}"
+        set -- "$@" "$argument"
+    elif is_among "$argument" "$flags"; then
+        set_own "$argument" yes
     else
-        refuse_words "unexpected argument '$argument' found"
+        ! is_among "$argument" "$passes" || set_own "$argument" yes
+        set -- "$@" "$argument"
     fi
 done
-[ -z "$awaits" ] || is_among "$awaits" "$passes_value" || refuse_words "a value is required for '$awaits' but none was supplied"
-[ -n "$takes_files" ] || [ "$files" -le 1 ] || refuse_words "unexpected argument '$file' found"
+[ "$files" -le 1 ] || refuse_words "unexpected argument '$file' found"

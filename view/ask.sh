@@ -1,9 +1,8 @@
-# To be sourced: how a word asks the proved program, and makes something of what that says. `share` is the folder that view/ and
-# convert/ stand in, and `word` the word that was asked for.
+# To be sourced: how a word asks the proved program, and makes something of what that says. `share` is the folder that view/ stands
+# in, and `word` the word that was asked for.
 
 . "$share/view/files.sh"
 held=''
-awk=awk
 
 # ask WORDS...: the program.
 ask() { (run_program "$@"); }
@@ -16,19 +15,6 @@ hold_files() {
     trap 'rm -rf "$held"' EXIT
     trap 'exit 130' INT
     trap 'exit 143' TERM HUP
-}
-
-# need_readable FILE...: ends where one can't be opened, as the program says it.
-need_readable() {
-    for named; do
-        if [ -r "$named" ] && [ ! -d "$named" ]; then continue; fi
-        say 'cannot open'
-        if [ -d "$named" ]; then say "$named: Is a directory"
-        elif [ -e "$named" ]; then say "$named: Permission denied"
-        else say "$named: No such file or directory"
-        fi
-        exit 4
-    done
 }
 
 # keep_capture: `judged` is then the capture as the program takes it, and `capture` the same file as awk does, which can be read
@@ -51,27 +37,26 @@ keep_capture() {
     judged=$capture
 }
 
-# run_awk FOLDER FILES NAME=VALUE...: awk on these of the folder's files, with these variables. awk takes a backslash in a
-# value for the beginning of an escape, so each is doubled. It takes bytes as bytes, since a name may be of another locale.
+# run_awk FILES NAME=VALUE...: awk on these files of view/, with these variables. awk takes a backslash in a value for the
+# beginning of an escape, so each is doubled. It takes bytes as bytes, since a name may be of another locale.
 run_awk() {
-    folder=$1
-    files=$2
-    shift 2
+    files=$1
+    shift
     left=$#
     while [ "$left" -gt 0 ]; do
         set -- "$@" -v "$(printf '%s\n' "$1" | sed 's/\\/&&/g')"
         shift
         left=$((left - 1))
     done
-    for part in $files; do set -- "$@" -f "$share/$folder/$part.awk"; done
-    LC_ALL=C $awk "$@"
+    for part in $files; do set -- "$@" -f "$share/view/$part.awk"; done
+    LC_ALL=C awk "$@"
 }
 
 # run_view VIEW NAME=VALUE...: the view, of the report on standard input.
 run_view() {
     files=$(view_files "$1")
     shift
-    run_awk view "$files" "$@"
+    run_awk "$files" "$@"
 }
 
 # end_view ENDED: the status is the program's, which stands in $held/status, and so is what stands on standard error, which is in

@@ -44,7 +44,7 @@ fi
 
 # What the words name: standard input is kept as it comes, to be asked again. What comes only once from elsewhere is not.
 shift
-takes='' flags='' passes_value='--rate --deck' passes='--hands --sync --all' asks=why takes_files=''
+flags='' passes_value='--rate --deck' passes='--hands --sync --all'
 named=$(. "$share/view/arguments.sh" 2> /dev/null && echo "$files$file")
 case $named in
     0)

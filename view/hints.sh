@@ -12,7 +12,7 @@ rate_hint() {
 
 # why_hint OPTIONS...: after a no of `why` with these options, whose capture is `judged`.
 why_hint() {
-    hint=$(ask why "$@" -- "$judged" 2> /dev/null | run_awk view hint "rate=$own_rate")
+    hint=$(ask why "$@" -- "$judged" 2> /dev/null | run_awk hint "rate=$own_rate")
     case $hint in
         M1)
             set -- --rate "${own_rate:-25}" ${own_all:+--all} ${own_sync:+--sync} ${own_deck:+"--deck=$own_deck"}

@@ -6,7 +6,7 @@
 
 word=$1
 shift
-takes_files='' takes='' passes_value='--rate --deck'
+passes_value='--rate --deck'
 case $word in
     touches) asks=run flags='--hands --sync' passes='--all --bytes --line-buffered' ;;
 esac

@@ -1,13 +1,5 @@
-# To be sourced by a script of tests that runs a view or a converter, after judge.sh: of which awk files that is, and what the last
-# run made, whose status is in $status and whose streams are in the folder $work.
-
-. view/files.sh
-
-# files_of VIEW: the words of awk that name its files.
-files_of() {
-    local file
-    for file in $(view_files "$1"); do echo "-f view/$file.awk"; done
-}
+# To be sourced by a script of tests that runs what is awk, after judge.sh: under which awk, and what the last run made, whose status
+# is in $status and whose streams are in the folder $work.
 
 # script_under AWK: a script that is `ninecheck` where this is the awk on the path.
 script_under() {

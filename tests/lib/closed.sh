@@ -16,7 +16,7 @@ into_closed() {
     : > "$work/out"
 }
 
-# is_silent: the run ended as one does that a signal of the pipe ends, and said nothing. Under its option --posix gawk does not tell
+# is_silent: the run of an awk ended as one does that a signal of the pipe ends, and said nothing. Under its option --posix gawk does not tell
 # what became of a pipe, so there it ended well.
 is_silent() {
     case $awk in

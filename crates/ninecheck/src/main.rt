@@ -16,8 +16,11 @@ fn main(rt: HostRuntime) -> ExitCode {
         None => Ok(Source::Standard(rt.reader())),
         Some(name) => Ok(Source::File(open_file(&rt, name.as_str())?)),
     };
-    let open_sheet = |file: &String| open_file(&rt, file.as_str());
-    let (end, _) = run_program(rt.alloc(), words, open_sheet, open, io::writer(&rt));
+    let open_other = |file: &String| open_file(&rt, file.as_str());
+    // A file that is there is left as it is.
+    let make_part = |name: &str| fs::File::create_new(&rt, name);
+    let out = io::writer(&rt);
+    let (end, _) = run_program(rt.alloc(), words, open_other, open, make_part, out);
     tell(&rt, &end);
     ExitCode::from(end.status())
 }

@@ -5,6 +5,9 @@ use Rattle.capture9.specs.declared.error.CaptureError.{CaptureError}
 use Rattle.capture9.specs.declared.error.CaptureKind.TheVariants as kind
 use Rattle.capture9.specs.Fields.{greatest_limit}
 use Rattle.capture9.specs.Rows.{HasHeader, Rows, rows_of, rows_within}
+use Rattle.convert9.specs.declared.fault.ConvertFault.{ConvertFault}
+use Rattle.convert9.specs.declared.log.times.Notice.{Notice}
+use Rattle.convert9.specs.declared.split.SplitFault.{SplitFault}
 use Rattle.deck9.specs.declared.profile.Profile.{Profile}
 use Rattle.picture9.specs.declared.picture.Drawn.{Drawn}
 use Rattle.report9.specs.declared.error.JudgeError.{JudgeError}
@@ -20,14 +23,15 @@ use Rattle.report9.specs.RunText.{text_of_run}
 use Rattle.judge9.specs.Judging.{Answers}
 use Rattle.judge9.specs.Report.{Told, by_totals, by_verdict}
 use Rattle.judge9.specs.RunVerdict.{IsJudgedRun, verdict_of}
+use Rattle.words9.specs.declared.task.Export.{Export}
 use Rattle.words9.specs.declared.task.Report.{Report}
-use Rattle.words9.specs.declared.task.Report.TheVariants.{Clock, Info, JsonRun, Made, Page, Parts, Picture, Run, ToBreak, Try}
+use Rattle.words9.specs.declared.task.Report.TheVariants.{Clock, Convert, Info, JsonRun, Made, Page, Parts, Picture, Run, Split, ToBreak, Try}
 use Rattle.view9.specs.declared.clock.ClockFault.{ClockFault}
 use Rattle.view9.specs.declared.seen.Ending.{Ending}
 use Rattle.program9.specs.declared.ending.Message.TheVariants as message
 use Rattle.program9.specs.declared.ending.Outcome.{Outcome}
 use Rattle.program9.specs.declared.judging.Job.{Job}
-use Rattle.program9.specs.Outcome.{outcome_drawn, outcome_in_parts, outcome_kept, outcome_made, outcome_of, outcome_rewritten, outcome_told}
+use Rattle.program9.specs.Outcome.{outcome_converted, outcome_drawn, outcome_in_parts, outcome_kept, outcome_made, outcome_of, outcome_of_split, outcome_rewritten, outcome_told}
 use Rattle.program9.specs.Output.{IsFirstPart}
 use Rattle.program9.specs.Trying.{TellsAnswers}
 
@@ -108,6 +112,14 @@ IsPaged end = ((ending : Ending) × (end ≡ outcome_made (Ok ending))) ⊎ (end
 abbrev pub EndsPaged : Outcome → Type 0
 EndsPaged end = (told : Result Outcome JudgeError) × IfOk told IsPaged × (end ≡ outcome_kept told)
 
+-- an export was to become a capture; that what was written can be read, stands where it is written
+abbrev pub EndsConverted : Export → Outcome → Type 0
+EndsConverted export end = (told : Result (Option Notice) ConvertFault) × (end ≡ outcome_converted export told)
+
+-- a capture was to be cut into parts: their names were to be written, or it ended early, whatever is said of what it left behind
+abbrev pub EndsSplit : Outcome → Type 0
+EndsSplit end = ((told : Result Unit JudgeError) × (end ≡ outcome_told told)) ⊎ ((fault : SplitFault) × (end.status ≡ (outcome_of_split fault).status))
+
 -- a capture was judged and told by this report, and this is the end
 abbrev pub EndsJudged : Report → Job → Option (List ℕ) → Option (List ℕ) → Outcome → Option (List ℕ) → Type 0
 EndsJudged Run job capture old end now = EndsAs (IsJudgedWithRun job capture old) outcome_of end now
@@ -120,3 +132,5 @@ EndsJudged Info job capture old end now = EndsInfo end
 EndsJudged (Try extent) job capture old end now = EndsAs (TellsAnswers (record { extent = extent; beginning = job.asked.beginning }) job.profile capture old) outcome_kept end now
 EndsJudged (Picture extent) job capture old end now = EndsDrawn end
 EndsJudged Page job capture old end now = EndsPaged end
+EndsJudged (Convert export) job capture old end now = EndsConverted export end
+EndsJudged Split job capture old end now = EndsSplit end

@@ -1,10 +1,18 @@
 -- How the program ends: its status, and what it says on standard error.
-use Rattle.std.specs.Prelude.{◌==◌, if◌then◌else◌, Option, Some, Result, Ok, Err}
+use Rattle.std.specs.Prelude.{ℕ, ◌==◌, if◌then◌else◌, None, Option, Some, Result, Ok, Err}
 use Rattle.std.specs.declared.io.ErrorKind.{ErrorKind}
 use Rattle.std.specs.declared.io.ErrorKind.TheVariants.{BrokenPipe}
 use Rattle.capture9.specs.declared.error.CaptureError.{CaptureError}
 use Rattle.capture9.specs.declared.error.CaptureKind.{CaptureKind}
 use Rattle.capture9.specs.declared.error.CaptureKind.TheVariants as kind
+use Rattle.convert9.specs.declared.fault.ConvertFault.{ConvertFault}
+use Rattle.convert9.specs.declared.fault.ConvertFault.TheVariants as convert
+use Rattle.convert9.specs.declared.fault.Refusal.{Refusal}
+use Rattle.convert9.specs.declared.fault.Wrong.{Wrong}
+use Rattle.convert9.specs.declared.fault.Wrong.TheVariants as wrong
+use Rattle.convert9.specs.declared.log.times.Notice.{Notice}
+use Rattle.convert9.specs.declared.split.SplitFault.{SplitFault}
+use Rattle.convert9.specs.declared.split.SplitFault.TheVariants as split
 use Rattle.picture9.specs.declared.picture.Drawn.{Drawn}
 use Rattle.picture9.specs.declared.picture.Drawn.TheVariants as drawn
 use Rattle.report9.specs.declared.error.JudgeError.{JudgeError}
@@ -16,9 +24,12 @@ use Rattle.view9.specs.declared.clock.ClockFault.{ClockFault}
 use Rattle.view9.specs.declared.clock.ClockFault.TheVariants as fault
 use Rattle.view9.specs.declared.seen.Ending.{Ending}
 use Rattle.view9.specs.declared.seen.Ending.TheVariants as ending
+use Rattle.words9.specs.declared.task.Export.{Export}
 use Rattle.program9.specs.declared.ending.Message.{Message}
 use Rattle.program9.specs.declared.ending.Message.TheVariants as message
 use Rattle.program9.specs.declared.ending.Outcome.{Outcome}
+use Rattle.program9.specs.declared.ending.Refuser.{Refuser}
+use Rattle.program9.specs.declared.ending.Refuser.TheVariants as by
 
 -- the end after a refusal of the capture, by its kind: a bad row, a reader that failed, or memory ran out
 abbrev pub capture_outcome : CaptureKind → CaptureError → Outcome
@@ -78,6 +89,31 @@ outcome_drawn (drawn.Nothing why) = record { status = 2; message = message.Nothi
 abbrev pub outcome_kept : Result Outcome JudgeError → Outcome
 outcome_kept (Ok end) = end
 outcome_kept (Err e) = outcome_refused e
+
+-- the status after a refusal: 2 where the words are wrong, 3 where the export or the capture is, 4 where a part can't be written
+abbrev pub status_of_wrong : Wrong → ℕ
+status_of_wrong wrong.Words = 2
+status_of_wrong wrong.Export = 3
+status_of_wrong wrong.Part = 4
+
+-- the end after this word refused something
+abbrev pub outcome_refused_by : Refuser → Refusal → Outcome
+outcome_refused_by by refusal = record { status = status_of_wrong refusal.wrong; message = message.Refused (record { by = by; refusal = refusal }) }
+
+-- after an export was to become a capture: the status is 0, and maybe there is a notice; else it is told what was wrong
+abbrev pub outcome_converted : Export → Result (Option Notice) ConvertFault → Outcome
+outcome_converted export (Ok None) = record { status = 0; message = message.Nothing }
+outcome_converted export (Ok (Some notice)) = record { status = 0; message = message.Notice notice }
+outcome_converted export (Err (convert.Refused refusal)) = outcome_refused_by (by.Convert export) refusal
+outcome_converted export (Err convert.Read) = record { status = 4; message = message.TextFault }
+outcome_converted export (Err convert.Write) = record { status = 4; message = message.WriteFault }
+outcome_converted export (Err convert.OutOfMemory) = record { status = 5; message = message.NoMemory }
+
+-- after a split that ended early so, whatever it left behind
+abbrev pub outcome_of_split : SplitFault → Outcome
+outcome_of_split (split.Refused refusal) = outcome_refused_by by.Split refusal
+outcome_of_split (split.Capture e) = capture_outcome e.kind e
+outcome_of_split split.OutOfMemory = record { status = 5; message = message.NoMemory }
 
 -- what is said, but of a write fault nothing
 abbrev pub unless_write_fault : Message → Message

@@ -21,7 +21,7 @@ use Rattle.program9.specs.Header.{with_header}
 use Rattle.program9.specs.Judging.{EndsJudged}
 use Rattle.program9.specs.Opening.{no_memory, outcome_unopened}
 use Rattle.program9.specs.Outcome.{told_after}
-use Rattle.program9.specs.Sheet.{FindsDeck}
+use Rattle.program9.specs.Sheet.{EndsOther, FindsDeck}
 use Rattle.program9.specs.Version.{TellsVersion}
 
 -- what the program is given besides its words: how the captures of tasks, and the sheets that they name, are opened, and what is to
@@ -63,9 +63,9 @@ pub record EndsOpening {R S W : Type 0} (streams : Streams R S W) (task : Task) 
   pub is_opened : streams.opens task.file opened
   pub ends : EndsUnbegun task.file opened end
 
--- the task ended so before its judging: no deck came of its sheet, or the capture was opened, which it is only then
+-- the task ended so before its judging: its other file was not read, or the capture was opened, which it is only then
 abbrev pub EndsBefore : {R S W : Type 0} → Streams R S W → Task → Outcome → Type 0
-EndsBefore streams task end = FindsDeck streams.opens_sheet streams.coming_sheet task.deck (Err end) ⊎ EndsOpening streams task end
+EndsBefore streams task end = EndsOther streams.opens_sheet streams.coming_sheet task.deck task.export.deck_file end ⊎ EndsOpening streams task end
 
 -- the judging of the task began, and ended; where the header is at fault, the end tells the file and what stands in the place of the
 -- header: which bytes are shown of it is tested. If a write failed on the way, it failed with some kind of error, and this is the end

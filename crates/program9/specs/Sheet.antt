@@ -12,7 +12,7 @@ use Rattle.sheet9.specs.Refusal.{NamesFaultLine, Reports}
 use Rattle.sheet9.specs.Sheet.{IsDeckOf, sheet_of}
 use Rattle.program9.specs.declared.ending.Message.TheVariants as message
 use Rattle.program9.specs.declared.ending.Outcome.{Outcome}
-use Rattle.program9.specs.Opening.{no_memory, why_of}
+use Rattle.program9.specs.Opening.{no_memory, outcome_unopened, why_of}
 
 -- the end where a sheet was not opened or its reader failed: out of memory, or that this file can't be opened, and why
 abbrev pub outcome_of_sheet_kind : String Global → ErrorKind → Outcome
@@ -47,3 +47,12 @@ FindsDeck {S = S} opens coming None found = found ≡ Ok None
 FindsDeck {S = S} opens coming (Some file) (Ok None) = ⊥
 FindsDeck {S = S} opens coming (Some file) (Ok (Some deck)) = (opened : Result S Error) × opens file opened × IsOpenedAs coming file opened (Ok deck)
 FindsDeck {S = S} opens coming (Some file) (Err end) = (opened : Result S Error) × opens file opened × IsOpenedAs coming file opened (Err end)
+
+-- a file was not opened, or its reader failed, and this is the end
+abbrev pub IsUnopened : String Global → Outcome → Type 0
+IsUnopened file end = (e : Error) × (end ≡ outcome_unopened (Some file) e)
+
+-- the other file of these, the sheet or the deck's file of an export, was not read, and this is the end
+abbrev pub EndsOther : {S : Type 0} → (String Global → Result S Error → Type 0) → (S → Option (List ℕ)) → Option (String Global) → Option (String Global) → Outcome
+    → Type 0
+EndsOther opens coming sheet deck_file end = FindsDeck opens coming sheet (Err end) ⊎ ((file : String Global) × (deck_file ≡ Some file) × IsUnopened file end)

@@ -9,7 +9,7 @@ use Rattle.sheet9.specs.Text as sheet
 use Rattle.program9.specs.declared.ending.Message.{Message}
 use Rattle.program9.specs.declared.ending.Message.TheVariants as message
 use Rattle.program9.specs.Header.{header_found}
-use Rattle.program9.specs.Word.{expected_of, file_name_of, first_line_of, reason_of, word_of}
+use Rattle.program9.specs.Word.{expected_of, file_name_of, first_line_of, notice_text, reason_of, refuser_word, word_of}
 
 -- what a bad row has in the field that is wrong, after what was expected there
 abbrev pub found_text : Option ShownField → List ℕ
@@ -22,6 +22,8 @@ abbrev pub text_of : Message → List ℕ
 text_of message.Nothing = []
 text_of (message.Unreadable e) = codes "unreadable at row " ++ decimal e.row ++ codes ": " ++ word_of e.kind ++ codes "\n" ++ expected_of e.kind e.row ++ found_text e.field
 text_of (message.NoHeader n) = codes "unreadable at row 0: header\n" ++ file_name_of n.file ++ codes ": expected the header time_us,wire,byte; the first line is " ++ header_found n.found
+text_of (message.Refused r) = codes "ninecheck " ++ refuser_word r.by ++ codes ": line " ++ decimal r.refusal.line ++ codes ": " ++ string_bytes r.refusal.text
+text_of (message.Notice n) = codes "ninecheck convert log: " ++ notice_text n
 text_of (message.Hints lines) = string_bytes lines
 text_of (message.NothingToDraw nothing.Yes) = codes "nothing to draw: the verdict is a yes"
 text_of (message.NothingToDraw nothing.NoPartBreaks) = codes "nothing to draw: no part breaks"

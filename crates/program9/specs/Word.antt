@@ -5,6 +5,11 @@ use Rattle.std.specs.String.{string_bytes}
 use Rattle.capture9.specs.Fields.{most_rows}
 use Rattle.capture9.specs.declared.error.CaptureKind.{CaptureKind}
 use Rattle.capture9.specs.declared.error.CaptureKind.TheVariants as kind
+use Rattle.convert9.specs.declared.log.times.Notice.{Notice}
+use Rattle.convert9.specs.declared.log.times.Notice.TheVariants as notice
+use Rattle.words9.specs.declared.task.Export.TheVariants as export
+use Rattle.program9.specs.declared.ending.Refuser.{Refuser}
+use Rattle.program9.specs.declared.ending.Refuser.TheVariants as by
 use Rattle.program9.specs.declared.ending.WhyUnopened.{WhyUnopened}
 use Rattle.program9.specs.declared.ending.WhyUnopened.TheVariants as why
 
@@ -37,6 +42,18 @@ expected_of kind.OutOfMemory row = codes "expected a row that ends"
 abbrev pub first_line_of : WhyUnopened → List ℕ
 first_line_of why.IsADirectory = codes "read fault at row 0"
 first_line_of _ = codes "cannot open"
+
+-- a word that refuses something
+abbrev pub refuser_word : Refuser → List ℕ
+refuser_word (by.Convert export.Sigrok) = codes "convert sigrok"
+refuser_word (by.Convert export.Saleae) = codes "convert saleae"
+refuser_word (by.Convert export.Log) = codes "convert log"
+refuser_word by.Split = codes "split"
+
+-- what there is to say of the times of a log
+abbrev pub notice_text : Notice → List ℕ
+notice_text notice.WholeNumbers = codes "all times are whole numbers, and were read as seconds; --unit ms or --unit us reads a counter"
+notice_text notice.Coarse = codes "timestamps are coarser than 100 microseconds, so L1, L2 and B3 mean little"
 
 -- what a file is called
 abbrev pub file_name_of : Option (String Global) → List ℕ

@@ -2,6 +2,7 @@
 //!
 //! Both are read through one type, so that the program has one reader of rows: a second one would cost each record of the first.
 ghost use Rattle.std.specs.Prelude.{◌≡◌, IfOk, IfSome, Some};
+ghost use Rattle.std.specs.Io.{ReadsAtMost};
 ghost use Rattle.program9.specs.Again.{still_to_come};
 
 use std::alloc::Global;
@@ -14,6 +15,17 @@ pub(crate) enum Again<'t, R: Read + Drop> {
     Opened(R),
     /// Of one that was read to its end, what is still to be read this time.
     Kept(&'t [u8]),
+    /// As it comes, and then a text, which begins on a line of its own.
+    Followed(Followed<'t, R>),
+}
+
+/// What is read as it comes, and then a text.
+#[derive(Drop)]
+pub(crate) struct Followed<'t, R: Read + Drop> {
+    reader: R,
+    text: &'t [u8],
+    /// Whether what was read ends in the middle of a line.
+    is_inside_line: bool,
 }
 
 impl<R: Read + Drop> Read for Again<'_, R> {
@@ -23,7 +35,35 @@ impl<R: Read + Drop> Read for Again<'_, R> {
         match self {
             Again::Opened(reader) => reader.read(place),
             Again::Kept(text) => text.read(place),
+            Again::Followed(both) => both.read(place),
         }
+    }
+}
+
+impl<'t, R: Read + Drop> Followed<'t, R> {
+    /// What the reader gives, and then this text, without a byte order mark before it.
+    pub(crate) fn new(reader: R, text: &'t [u8]) -> Followed<'t, R> {
+        Followed {
+            reader,
+            text: text.strip_prefix(b"\xEF\xBB\xBF").unwrap_or(text),
+            is_inside_line: false,
+        }
+    }
+
+    /// Reads on.
+    fn read(&mut self, place: &mut [u8]) -> io::Result<usize>
+        ensures { ReadsAtMost result place.new }
+    {
+        let taken = self.reader.read(place)?;
+        if let Some(last) = place.get(..taken).and_then(|taken| taken.last()) {
+            self.is_inside_line = *last != b'\n';
+            return Ok(taken);
+        }
+        if self.is_inside_line && !self.text.is_empty() && !place.is_empty() {
+            self.is_inside_line = false;
+            return b"\n".as_slice().read(place);
+        }
+        self.text.read(place)
     }
 }
 

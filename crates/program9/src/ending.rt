@@ -3,9 +3,10 @@
 use crate::no_header::NoHeader;
 use capture9::CaptureError;
 use clap::Error;
+use convert9::{Notice, Refusal};
 use picture9::WhyNothing;
-use sheet9::Refusal;
-use words9::NoValue;
+use sheet9::Refusal as SheetRefusal;
+use words9::{Export, NoValue};
 
 /// What is said on standard error, which its `Display` writes: two lines, without a line feed at the end, or nothing. The
 /// first line says what happened; the second what was expected, or what to look at.
@@ -17,7 +18,11 @@ pub enum Message {
     Unreadable(CaptureError),
     /// The header of the capture is none, and this stands in its place.
     NoHeader(NoHeader),
-    /// The capture was asked with several terms, and this is what to look at besides, line by line.
+    /// An export was refused, or a capture that was to be split, or the words for that.
+    Refused(RefusedExport),
+    /// A log was converted, and this is to be said of its times.
+    Notice(Notice),
+    /// These lines: what to look at besides the answers to several terms, or what went wrong with a split and what it left behind.
     Hints(String),
     /// There is nothing to draw.
     NothingToDraw(WhyNothing),
@@ -43,7 +48,25 @@ pub struct UnreadSheet {
     /// The file, by the name that the words give.
     pub file: String,
     /// What is wrong with its text.
+    pub refusal: SheetRefusal,
+}
+
+/// What was refused of an export, or of a split.
+#[derive(Debug, Drop, PartialEq, Eq)]
+pub struct RefusedExport {
+    /// Which word refused it.
+    pub by: Refuser,
+    /// The line, and what is wrong there.
     pub refusal: Refusal,
+}
+
+/// A word that reads what is no capture, or is one that is cut.
+#[derive(Clone, Copy, Debug, PartialEq, Eq)]
+pub enum Refuser {
+    /// `convert`, of this kind of export.
+    Convert(Export),
+    /// `split`.
+    Split,
 }
 
 /// A capture or a deck's sheet that was not opened.
@@ -76,8 +99,9 @@ pub enum WhyUnopened {
 /// How the program ends where its words are a command.
 #[derive(Debug, Drop, PartialEq, Eq)]
 pub struct Outcome {
-    /// The exit status: 0 yes, or the version; 1 no, 2 nothing to draw, 3 a capture or a deck's sheet that can't be read, 4 a reader or a writer that
-    /// failed or a file that can't be opened, 5 out of memory. (Words that are no command end with 2, and have no outcome.)
+    /// The exit status: 0 yes, the version, or a capture that was made or cut; 1 no; 2 nothing to draw, or a wrong word of an export or a
+    /// split; 3 a capture, an export or a deck's sheet that can't be read; 4 a reader or a writer that failed, or a file that can't be
+    /// opened or made; 5 out of memory. (Words that are no command end with 2, and have no outcome.)
     pub status: u8,
     /// What is said on standard error.
     pub message: Message,

@@ -9,6 +9,7 @@ ghost use Rattle.program9.specs.Judging.{EndsJudged, HandsOn, IsJudgedWithRun, W
 use crate::again::Again;
 use crate::buffered::Buffered;
 use crate::ending::Outcome;
+use crate::exporting::{convert, split};
 use crate::making::{draw, make, make_page, rewrite_times, tell_info};
 use crate::status::{
     outcome, outcome_in_parts, outcome_kept, outcome_made, outcome_rewritten, outcome_told,
@@ -18,9 +19,9 @@ use deck9::Profile;
 use judge9::{judge_for, judge_parts_for, judge_with_run_for};
 use report9::{JudgeError, RunVerdict, Scope, Verdict, write_run_for};
 use std::alloc::Global;
-use std::io::{Read, Write};
+use std::io::{self, Read, Write};
 use view9::{ClockFault, write_json_run};
-use words9::{Asked, Report};
+use words9::{Asked, ExportWords, Report};
 
 /// What is asked of a capture, and for which deck.
 #[derive(Drop)]
@@ -31,30 +32,42 @@ pub struct Job {
     pub profile: Profile,
 }
 
-/// The files that the words name.
+/// What the words name: files, and what they say of an export.
 #[derive(Debug, Drop, PartialEq, Eq)]
 pub struct Named {
-    /// That of the capture; standard input where there is none.
+    /// The file of the capture or the export; standard input where there is none.
     pub file: Option<String>,
     /// That of the deck's sheet, where there is one.
     pub sheet: Option<String>,
+    /// What they say of an export or of a split.
+    pub export: ExportWords,
+    /// The text of the deck's file, where an export has a file for each wire.
+    pub deck_text: Option<Vec<u8>>,
 }
 
 /// Judges the capture that the reader gives as the job says, and passes the whole report on to the writer behind the buffer.
 ///
 /// The report is that of `judge_for`, that of `judge_parts_for`, or the text of the run that `judge_with_run_for` answered, of which
 /// there is none where there is no verdict; or it is what a view makes, of which nothing is promised here. A page says which files the words
-/// name. The end is that of the verdict, of the totals or of the refusal of that judging, as
+/// name. An export becomes a capture, and a capture is cut into parts, each of which `make_part` makes: it is asked with the part's name,
+/// and must not give a file that was there before. The end is that of the verdict, of the totals or of the refusal of that judging, as
 /// [`outcome`] and [`outcome_in_parts`] say, where the writer took the whole report. Else it is a write fault, and the writer has a
 /// first part of the report; what the buffer still holds is not written. After a write that failed, that was interrupted or that
 /// took no byte, none is tried again.
-pub fn judge_and_flush<R: Read + Drop, W: Write + Drop>(
+pub fn judge_and_flush<
+    R: Read + Drop,
+    W: Write + Drop,
+    P: Write + Drop,
+    H: Fn(&str) -> io::Result<P>,
+>(
     alloc: Global,
     reader: R,
     out: &mut Buffered<W>,
     job: Job,
     named: &Named,
+    make_part: &H,
 ) -> Outcome
+    requires { H.IsAlwaysCallable make_part.now }
     ensures { EndsJudged job.asked.report job (R.remaining reader) (held_contents W.contents out.old) result (contents_behind W.contents out.new) }
 {
     let beginning = job.asked.beginning;
@@ -115,6 +128,8 @@ pub fn judge_and_flush<R: Read + Drop, W: Write + Drop>(
             let told = make_page(alloc, reader, out, &job, named);
             outcome_kept(ended(out, told))
         }
+        Report::Convert(export) => convert(alloc, reader, out, export, named),
+        Report::Split => split(alloc, Again::Opened(reader), out, named, make_part),
     }
 }
 
@@ -182,7 +197,7 @@ fn verdict_of(run: &RunVerdict) -> Verdict
 }
 
 /// The end of a judging that answered this: all is passed on, unless a write failed already.
-fn ended<W: Write + Drop, A: Drop>(
+pub(crate) fn ended<W: Write + Drop, A: Drop>(
     out: &mut Buffered<W>,
     judged: Result<A, JudgeError>,
 ) -> Result<A, JudgeError>

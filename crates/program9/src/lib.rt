@@ -5,6 +5,7 @@
 mod again;
 mod buffered;
 mod ending;
+mod exporting;
 mod first_bytes;
 mod held;
 mod judging;
@@ -19,11 +20,14 @@ mod trying;
 mod version;
 
 pub use buffered::Buffered;
-pub use ending::{End, Message, Outcome, Unopened, UnreadSheet, WhyUnopened};
+pub use ending::{
+    End, Message, Outcome, RefusedExport, Refuser, Unopened, UnreadSheet, WhyUnopened,
+};
 pub use judging::{Job, Named, judge_and_flush};
 pub use no_header::{FoundHeader, LooksLike, NoHeader};
 pub use program::run_program;
 pub use status::{
-    outcome, outcome_drawn, outcome_in_parts, outcome_made, outcome_rewritten, outcome_told,
+    outcome, outcome_converted, outcome_drawn, outcome_in_parts, outcome_made, outcome_rewritten,
+    outcome_told,
 };
 pub use trying::{Answer, Terms};

@@ -1,11 +1,13 @@
 //! The text of what is said on standard error.
 ghost use Rattle.std.specs.Prelude.{◌≡◌};
-ghost use Rattle.program9.specs.Word.{expected_of, file_name_of, first_line_of, reason_of, word_of};
+ghost use Rattle.program9.specs.Word.{expected_of, file_name_of, first_line_of, notice_text, reason_of, refuser_word, word_of};
 
-use crate::ending::{Message, WhyUnopened};
+use crate::ending::{Message, Refuser, WhyUnopened};
 use capture9::{CaptureKind, MOST_ROWS};
+use convert9::Notice;
 use picture9::WhyNothing;
 use std::fmt;
+use words9::Export;
 
 impl fmt::Display for Message {
     ghost use Rattle.std.specs.Prelude.{Some};
@@ -30,6 +32,15 @@ impl fmt::Display for Message {
                     f,
                     "unreadable at row 0: header\n{file}: expected the header time_us,wire,byte; the first line is {found}"
                 )
+            }
+            Message::Refused(refused) => {
+                let (word, line) = (refuser_word(refused.by), refused.refusal.line);
+                let text = refused.refusal.text.as_str();
+                write!(f, "ninecheck {word}: line {line}: {text}")
+            }
+            Message::Notice(notice) => {
+                let notice = notice_text(*notice);
+                write!(f, "ninecheck convert log: {notice}")
             }
             Message::Hints(lines) => f.write_str(lines.as_str()),
             Message::NothingToDraw(why) => match why {
@@ -117,6 +128,31 @@ fn first_line_of<'a>(why: WhyUnopened) -> &'a str
     match why {
         WhyUnopened::IsADirectory => "read fault at row 0",
         _ => "cannot open",
+    }
+}
+
+/// A word that refuses something.
+fn refuser_word<'a>(by: Refuser) -> &'a str
+    ensures { result.now ≡ refuser_word by }
+{
+    match by {
+        Refuser::Convert(Export::Sigrok) => "convert sigrok",
+        Refuser::Convert(Export::Saleae) => "convert saleae",
+        Refuser::Convert(Export::Log) => "convert log",
+        Refuser::Split => "split",
+    }
+}
+
+/// What there is to say of the times of a log.
+fn notice_text<'a>(notice: Notice) -> &'a str
+    ensures { result.now ≡ notice_text notice }
+{
+    match notice {
+        Notice::WholeNumbers => {
+            "all times are whole numbers, and were read as seconds; --unit ms or --unit us reads a counter"
+        }
+        Notice::Coarse =>
+            "timestamps are coarser than 100 microseconds, so L1, L2 and B3 mean little",
     }
 }
 

@@ -11,7 +11,7 @@ use crate::ending::{End, Message, Outcome, Unopened, WhyUnopened};
 use crate::first_bytes::FirstBytes;
 use crate::judging::{Job, Named, judge_and_flush};
 use crate::no_header::{found_in, with_header};
-use crate::sheet::find_deck;
+use crate::sheet::{Other, read_other};
 use crate::version::tell_version;
 use deck9::Profile;
 use std::alloc::Global;
@@ -35,8 +35,9 @@ struct Begun<R: Read + Drop, W: Write + Drop> {
 /// its capture, judges that and writes the report to `out`; or writes its version there. It answers how the program ends, and the
 /// writer as it left it.
 ///
-/// `sheet_opener` is asked once, for the task's sheet, where it names one; and then `opener` once, for the task's file, where there
-/// is a task and its sheet is none that was refused. The end is
+/// `sheet_opener` is asked once, for the task's sheet, or for the deck's file of an export, where it names one; and then `opener` once,
+/// for the task's file, where there is a task and its sheet is none that was refused. `make_part` makes the parts of a split: it is asked
+/// with the name of each, and must not give a file that was there before. The end is
 ///
 /// * `Usage` only where the words are no command, or could not be fetched as text: nothing is written;
 /// * `NoValue` only where the words are one, but for the value of `--from` or `--to`, which is no time: nothing is written;
@@ -56,16 +57,20 @@ pub fn run_program<
     S: Read + Drop,
     F: FnOnce(&Option<String>) -> io::Result<R>,
     R: Read + Drop,
+    H: Fn(&str) -> io::Result<P>,
+    P: Write + Drop,
     W: Write + Drop,
 >(
     alloc: Global,
     words: Result<Vec<String>, WordsFault>,
     sheet_opener: G,
     opener: F,
+    make_part: H,
     out: W,
 ) -> (End, W)
     requires sheet { G.IsAlwaysCallable sheet_opener }
     requires capture { F.IsAlwaysCallable opener }
+    requires part { H.IsAlwaysCallable make_part }
     ensures { EndsProgram (record { opens = FnOnceReturnsAt F.FnOnce opener; coming = R.remaining; opens_sheet = FnOnceReturnsAt G.FnOnce sheet_opener; coming_sheet = S.remaining; contents = W.contents })
         words out result.0 (W.contents result.1) }
 {
@@ -75,7 +80,7 @@ pub fn run_program<
     };
     match read_words(alloc, words) {
         Ok(task) => {
-            let (end, out) = carry_out(alloc, task, sheet_opener, opener, out);
+            let (end, out) = carry_out(alloc, task, sheet_opener, opener, make_part, out);
             (End::Told(end), out)
         }
         Err(fault) => end_without(fault, out),
@@ -103,10 +108,13 @@ fn carry_out<
     S: Read + Drop,
     F: FnOnce(&Option<String>) -> io::Result<R>,
     R: Read + Drop,
+    H: Fn(&str) -> io::Result<P>,
+    P: Write + Drop,
     W: Write + Drop,
->(alloc: Global, task: Task, sheet_opener: G, opener: F, out: W) -> (Outcome, W)
+>(alloc: Global, task: Task, sheet_opener: G, opener: F, make_part: H, out: W) -> (Outcome, W)
     requires sheet { G.IsAlwaysCallable sheet_opener }
     requires capture { F.IsAlwaysCallable opener }
+    requires part { H.IsAlwaysCallable make_part }
     ensures { EndsTask (record { opens = FnOnceReturnsAt F.FnOnce opener; coming = R.remaining; opens_sheet = FnOnceReturnsAt G.FnOnce sheet_opener; coming_sheet = S.remaining; contents = W.contents })
         task out result.0 (W.contents result.1) }
 {
@@ -119,7 +127,7 @@ fn carry_out<
                 named,
             } = begun;
             let mut reader = FirstBytes::of(reader);
-            let judged = judge_and_flush(alloc, &mut reader, &mut out, job, &named);
+            let judged = judge_and_flush(alloc, &mut reader, &mut out, job, &named, &make_part);
             let judged = with_header(judged, named.file, found_in(reader.as_slice()));
             taken_back(out, judged)
         }
@@ -155,11 +163,18 @@ fn begin<
         rate,
         hands,
         deck,
+        mut export,
     } = task;
-    let (deck, sheet) = match find_deck(alloc, deck, sheet_opener) {
-        Ok(found) => found,
+    let deck_file = export.deck_file.take();
+    let other = match read_other(alloc, deck, deck_file, sheet_opener) {
+        Ok(other) => other,
         Err(end) => return Err((end, out)),
     };
+    let Other {
+        deck,
+        sheet,
+        deck_text,
+    } = other;
     let reader = match opener(&file) {
         Ok(reader) => reader,
         Err(e) => return Err((not_opened(file, &e), out)),
@@ -172,7 +187,12 @@ fn begin<
                 reader,
                 out,
                 job,
-                named: Named { file, sheet },
+                named: Named {
+                    file,
+                    sheet,
+                    export,
+                    deck_text,
+                },
             })
         }
         Err(out) => Err((Outcome::new(5, Message::NoMemory), out)),
@@ -210,7 +230,7 @@ fn without_write_fault(end: Outcome) -> Outcome
 }
 
 /// The end where the capture was not opened.
-fn not_opened(file: Option<String>, e: &io::Error) -> Outcome
+pub(crate) fn not_opened(file: Option<String>, e: &io::Error) -> Outcome
     ensures { result ≡ outcome_unopened file e.now }
 {
     match e.kind() {

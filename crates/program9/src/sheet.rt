@@ -1,18 +1,81 @@
 //! The deck's sheet: from the file that the words name to what the deck does of its own.
 ghost use Rattle.std.specs.Prelude.{◌≡◌, Err, IfErr, IfOk, Ok};
 ghost use Rattle.std.specs.Fn.{FnOnceReturnsAt};
-ghost use Rattle.program9.specs.Sheet.{FindsDeck, IsReadFrom, outcome_unread_sheet};
+ghost use Rattle.program9.specs.Sheet.{EndsOther, FindsDeck, IsReadFrom, IsUnopened, outcome_unread_sheet};
 
 use crate::ending::{Message, Outcome, Unopened, UnreadSheet};
-use crate::program::why_of;
+use crate::program::{not_opened, why_of};
 use deck9::Deck;
 use sheet9::{SheetError, read_sheet};
 use std::alloc::Global;
 use std::io::{self, Read};
 
+/// What came of the other file that the words name, beside that of the capture or the export.
+#[derive(Drop)]
+pub(crate) struct Other {
+    /// What the deck does of its own, where a sheet says it.
+    pub(crate) deck: Option<Deck>,
+    /// The sheet's file, where there is one.
+    pub(crate) sheet: Option<String>,
+    /// The text of the deck's file, where an export has one.
+    pub(crate) deck_text: Option<Vec<u8>>,
+}
+
+/// Opens the other file that the words name, and reads it: the deck's sheet, or the deck's file of an export. Else it is the end of the
+/// program.
+pub(crate) fn read_other<G: FnOnce(&String) -> io::Result<S>, S: Read + Drop>(
+    alloc: Global,
+    sheet: Option<String>,
+    deck_file: Option<String>,
+    opener: G,
+) -> Result<Other, Outcome>
+    requires { G.IsAlwaysCallable opener }
+    ensures found { IfOk result (λ other. FindsDeck (FnOnceReturnsAt G.FnOnce opener) S.remaining sheet (Ok other.deck)) }
+    ensures ends { IfErr result (λ end. EndsOther (FnOnceReturnsAt G.FnOnce opener) S.remaining sheet deck_file end) }
+{
+    match (sheet, deck_file) {
+        (None, Some(deck_file)) => match read_text(alloc, deck_file, opener) {
+            Ok(text) => Ok(Other {
+                deck: None,
+                sheet: None,
+                deck_text: Some(text),
+            }),
+            Err(end) => Err(end),
+        },
+        (sheet, _) => {
+            let (deck, sheet) = find_deck(alloc, sheet, opener)?;
+            Ok(Other {
+                deck,
+                sheet,
+                deck_text: None,
+            })
+        }
+    }
+}
+
+/// Opens a file, and reads its text to the end.
+fn read_text<G: FnOnce(&String) -> io::Result<S>, S: Read + Drop>(
+    alloc: Global,
+    file: String,
+    opener: G,
+) -> Result<Vec<u8>, Outcome>
+    requires { G.IsAlwaysCallable opener }
+    ensures { IfErr result (λ end. IsUnopened file end) }
+{
+    let mut reader = match opener(&file) {
+        Ok(reader) => reader,
+        Err(e) => return Err(not_opened(Some(file), &e)),
+    };
+    let mut text = Vec::new(alloc);
+    match reader.read_to_end(&mut text) {
+        Ok(_) => Ok(text),
+        Err(e) => Err(not_opened(Some(file), &e)),
+    }
+}
+
 /// Opens the sheet that the words name, and reads what the deck does of its own: nothing where they name none. The sheet's file is given
 /// back beside it. Else it is the end of the program.
-pub(crate) fn find_deck<G: FnOnce(&String) -> io::Result<S>, S: Read + Drop>(
+fn find_deck<G: FnOnce(&String) -> io::Result<S>, S: Read + Drop>(
     alloc: Global,
     file: Option<String>,
     opener: G,

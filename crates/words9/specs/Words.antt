@@ -23,9 +23,11 @@ use Rattle.report9.specs.declared.verdict.View.{View}
 use Rattle.report9.specs.declared.verdict.View.TheVariants as view
 use Rattle.words9.specs.declared.task.Asked.{Asked}
 use Rattle.words9.specs.declared.task.Drawing.{Drawing}
+use Rattle.words9.specs.declared.task.Export.TheVariants as export
+use Rattle.words9.specs.declared.task.ExportWords.{ExportWords}
 use Rattle.words9.specs.declared.task.Report.{Report}
 use Rattle.words9.specs.declared.task.Made.TheVariants as made
-use Rattle.words9.specs.declared.task.Report.TheVariants.{Clock, Info, JsonRun, Made, Page, Parts, Picture, Run, ToBreak, Try}
+use Rattle.words9.specs.declared.task.Report.TheVariants.{Clock, Convert, Info, JsonRun, Made, Page, Parts, Picture, Run, Split, ToBreak, Try}
 use Rattle.words9.specs.declared.task.Task.{Task}
 use Rattle.report9.specs.declared.time_form.TimeForm.{TimeForm}
 use Rattle.report9.specs.declared.time_form.TimeForm.TheVariants as form
@@ -105,6 +107,46 @@ width_rule = record (new_rule (codes "width")) { long = Some (codes "width"); va
 abbrev pub seconds_rule : Rule
 seconds_rule = record (new_rule (codes "seconds")) { long = Some (codes "seconds"); action = Some SetTrue }
 
+-- the deck's file, which may be left out, after the other
+abbrev pub deck_file_rule : Rule
+deck_file_rule = new_rule (codes "DECK-FILE")
+
+-- an option with a number, which is judged elsewhere: so is what each of the options below has
+abbrev pub samplerate_rule : Rule
+samplerate_rule = record (new_rule (codes "samplerate")) { long = Some (codes "samplerate"); value_names = 1 }
+
+-- an option with the name of an analyzer or of a port
+abbrev pub controller_rule : Rule
+controller_rule = record (new_rule (codes "controller")) { long = Some (codes "controller"); value_names = 1 }
+
+-- the same. Its id is not that of the deck's sheet, nor are those below of a report's times: so no rows have both
+abbrev pub export_deck_rule : Rule
+export_deck_rule = record (new_rule (codes "export-deck")) { long = Some (codes "deck"); value_names = 1 }
+
+-- an option with what a log's counter counts
+abbrev pub unit_rule : Rule
+unit_rule = record (new_rule (codes "unit")) { long = Some (codes "unit"); value_names = 1 }
+
+-- an option that is there or not
+abbrev pub live_rule : Rule
+live_rule = record (new_rule (codes "live")) { long = Some (codes "live"); action = Some SetTrue }
+
+-- an option with a time of an export
+abbrev pub export_from_rule : Rule
+export_from_rule = record (new_rule (codes "export-from")) { long = Some (codes "from"); value_names = 1 }
+
+-- the same
+abbrev pub export_to_rule : Rule
+export_to_rule = record (new_rule (codes "export-to")) { long = Some (codes "to"); value_names = 1 }
+
+-- an option with what the parts of a split are called
+abbrev pub part_name_rule : Rule
+part_name_rule = record (new_rule (codes "part-name")) { long = Some (codes "to"); value_names = 1 }
+
+-- an option with a number of rows
+abbrev pub rows_rule : Rule
+rows_rule = record (new_rule (codes "rows")) { long = Some (codes "rows"); value_names = 1 }
+
 -- the word of a verb
 abbrev pub name_of : Verb → Text
 name_of verb.Check = codes "check"
@@ -124,8 +166,12 @@ name_of verb.Info = codes "info"
 name_of verb.Try = codes "try"
 name_of verb.Picture = codes "picture"
 name_of verb.Page = codes "page"
+name_of verb.ConvertSigrok = codes "convert sigrok"
+name_of verb.ConvertSaleae = codes "convert saleae"
+name_of verb.ConvertLog = codes "convert log"
+name_of verb.Split = codes "split"
 
--- what each subcommand has but `clock`, `info` and `try`: the word of its verb, and then the file and the options of the panel, of the capture's
+-- what each subcommand has that judges, but `try`: the word of its verb, and then the file and the options of the panel, of the capture's
 -- beginning, of the rate and of the deck's sheet
 abbrev pub plain_app_for : RateNames → Verb → App
 plain_app_for names verb =
@@ -153,6 +199,28 @@ abbrev pub try_app_for : RateNames → App
 try_app_for names =
     with_rule (with_rule (with_rule (with_rule (with_rule (new_app (name_of verb.Try)) file_rule) sync_rule) (rate_rule names)) deck_rule) all_rule
 
+-- a subcommand that makes a capture of an export, or that cuts one: the word of its verb, and then the file
+abbrev pub file_app_for : Verb → App
+file_app_for verb = with_rule (new_app (name_of verb)) file_rule
+
+abbrev pub with_source_rules : App → App
+with_source_rules app = with_rule (with_rule app controller_rule) export_deck_rule
+
+abbrev pub with_time_rules : App → App
+with_time_rules app = with_rule (with_rule app export_from_rule) export_to_rule
+
+abbrev pub sigrok_app : App
+sigrok_app = with_time_rules (with_rule (file_app_for verb.ConvertSigrok) samplerate_rule)
+
+abbrev pub saleae_app : App
+saleae_app = with_time_rules (with_source_rules (with_rule (file_app_for verb.ConvertSaleae) deck_file_rule))
+
+abbrev pub log_app : App
+log_app = with_time_rules (with_rule (with_rule (with_source_rules (file_app_for verb.ConvertLog)) unit_rule) live_rule)
+
+abbrev pub split_app : App
+split_app = with_rule (with_rule (file_app_for verb.Split) part_name_rule) rows_rule
+
 -- the subcommand of a verb
 abbrev pub app_for : RateNames → Verb → App
 app_for names verb.Check = with_all_rules (plain_app_for names verb.Check)
@@ -172,6 +240,10 @@ app_for names verb.Info = info_app_for names
 app_for names verb.Try = try_app_for names
 app_for names verb.Picture = with_picture_rules (with_all_rules (plain_app_for names verb.Picture))
 app_for names verb.Page = with_stretch_rules (with_all_rules (with_bytes_rule (plain_app_for names verb.Page)))
+app_for names verb.ConvertSigrok = sigrok_app
+app_for names verb.ConvertSaleae = saleae_app
+app_for names verb.ConvertLog = log_app
+app_for names verb.Split = split_app
 
 -- the program, which wants a subcommand, and has a version; its own name is not among the words
 abbrev pub top : App
@@ -188,15 +260,23 @@ with_verb names app verb = with_subcommand app (app_for names verb).top
 abbrev pub program : RateNames → App
 program names =
     fold (with_verb names) top
-    (verb.Check ∷ verb.Explain ∷ verb.Run ∷ verb.Why ∷ verb.Digest ∷ verb.Delays ∷ verb.Motion ∷ verb.Json ∷ verb.JsonCheck ∷ verb.JsonExplain ∷ verb.JsonRun ∷ verb.JsonWhy ∷ verb.Clock ∷ verb.Info ∷ verb.Try ∷ verb.Picture ∷ verb.Page ∷ [])
+    (verb.Check ∷ verb.Explain ∷ verb.Run ∷ verb.Why ∷ verb.Digest ∷ verb.Delays ∷ verb.Motion ∷ verb.Json ∷ verb.JsonCheck ∷ verb.JsonExplain ∷ verb.JsonRun ∷ verb.JsonWhy ∷ verb.Clock ∷ verb.Info ∷ verb.Try ∷ verb.Picture ∷ verb.Page ∷ verb.ConvertSigrok ∷ verb.ConvertSaleae ∷ verb.ConvertLog ∷ verb.Split ∷ [])
 
 -- a report that `json` can be asked for
 abbrev pub is_asked : Text → Bool
 is_asked word = bytes_eq word (codes "check") || bytes_eq word (codes "explain") || bytes_eq word (codes "run") || bytes_eq word (codes "why")
 
+-- an export that `convert` can be asked for
+abbrev pub is_export : Text → Bool
+is_export word = bytes_eq word (codes "sigrok") || bytes_eq word (codes "saleae") || bytes_eq word (codes "log")
+
+-- two words that are one subcommand
+abbrev pub is_pair : Text → Text → Bool
+is_pair first second = (bytes_eq first (codes "json") && is_asked second) || (bytes_eq first (codes "convert") && is_export second)
+
 -- the words as the program takes them: those whose first two are one subcommand have them as one word, with a blank between
 abbrev pub joined : List Text → List Text
-joined (first ∷ second ∷ rest) = if bytes_eq first (codes "json") && is_asked second then (codes "json " ++ second) ∷ rest else first ∷ second ∷ rest
+joined (first ∷ second ∷ rest) = if is_pair first second then ((first ++ codes " ") ++ second) ∷ rest else first ∷ second ∷ rest
 joined words = words
 
 -- the program takes the words: they name this verb, and these rows come with it
@@ -247,6 +327,10 @@ report_of verb.Info all bytes seconds = Info
 report_of verb.Try all bytes seconds = Try (extent_of all)
 report_of verb.Picture all bytes seconds = Picture (extent_of all)
 report_of verb.Page all bytes seconds = Page
+report_of verb.ConvertSigrok all bytes seconds = Convert export.Sigrok
+report_of verb.ConvertSaleae all bytes seconds = Convert export.Saleae
+report_of verb.ConvertLog all bytes seconds = Convert export.Log
+report_of verb.Split all bytes seconds = Split
 
 -- with which record the judging begins, where the words say `--sync` or not
 abbrev pub beginning_of : Bool → Beginning
@@ -275,6 +359,19 @@ IsStretchOf rows stretch = (first_of (codes "from") rows ≡ None → stretch.fr
 abbrev pub IsDrawingOf : List Row → Drawing → Type 0
 IsDrawingOf rows drawing = (first_of (codes "at") rows ≡ None → drawing.at ≡ None) × (first_of (codes "width") rows ≡ None → drawing.width ≡ 1200)
 
+-- the rows of an export or of a split have this, as it stands among the words
+pub record IsExportOf (given : List Row) (export : ExportWords) : Type 0 where
+  pub deck_file : option_map string_bytes export.deck_file ≡ first_of (codes "DECK-FILE") given
+  pub samplerate : option_map string_bytes export.samplerate ≡ first_of (codes "samplerate") given
+  pub controller : option_map string_bytes export.controller ≡ first_of (codes "controller") given
+  pub deck : option_map string_bytes export.deck ≡ first_of (codes "export-deck") given
+  pub unit : option_map string_bytes export.unit ≡ first_of (codes "unit") given
+  pub from : option_map string_bytes export.from ≡ first_of (codes "export-from") given
+  pub to : option_map string_bytes export.to ≡ first_of (codes "export-to") given
+  pub name : option_map string_bytes export.name ≡ first_of (codes "part-name") given
+  pub rows : option_map string_bytes export.rows ≡ first_of (codes "rows") given
+  pub live : export.live ≡ has (codes "live") given
+
 -- the program takes the words, and they give this task
 pub record GivesTask (names : RateNames) (words : List Text) (task : Task) : Type 0 where
   pub verb : Verb
@@ -287,6 +384,7 @@ pub record GivesTask (names : RateNames) (words : List Text) (task : Task) : Typ
   pub rate : task.rate ≡ rate_of (first_of (codes "rate") rows)
   pub hands : task.hands ≡ (if has (codes "hands") rows then hands.Allowed else hands.None)
   pub deck : option_map string_bytes task.deck ≡ first_of (codes "deck") rows
+  pub export : IsExportOf rows task.export
 
 -- it does not take them
 abbrev pub GivesNoTask : RateNames → List Text → Type 0

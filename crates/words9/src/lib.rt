@@ -7,10 +7,15 @@
 //! judging and not after it.
 #![tactic(auto)]
 
+mod exports;
 mod task;
 mod times;
 mod usage;
+mod verbs;
 mod words;
 
-pub use task::{Asked, Drawing, Made, NoValue, Report, Task, VERSION_LINE, Verb, WordsFault};
+pub use task::{
+    Asked, Drawing, Export, ExportWords, Made, NoValue, Report, Task, VERSION_LINE, Verb,
+    WordsFault,
+};
 pub use words::read_words;

@@ -7,7 +7,7 @@ use std::fmt;
 use tc25::Rate;
 
 /// The program's name and version, with a line feed. The package and the man page take the number from this line.
-pub const VERSION_LINE: &str = "ninecheck 1.1.0\n";
+pub const VERSION_LINE: &str = "ninecheck 2.0.0\n";
 
 /// A subcommand.
 #[derive(Clone, Copy, Debug, PartialEq, Eq)]
@@ -46,6 +46,25 @@ pub enum Verb {
     Picture,
     /// Makes a page of the whole session: `page`.
     Page,
+    /// Makes a capture of what sigrok-cli printed: `convert sigrok`.
+    ConvertSigrok,
+    /// Makes one of a table of Saleae Logic: `convert saleae`.
+    ConvertSaleae,
+    /// Makes one of a serial log: `convert log`.
+    ConvertLog,
+    /// Cuts a long capture into parts: `split`.
+    Split,
+}
+
+/// What a capture is made of.
+#[derive(Clone, Copy, Debug, PartialEq, Eq)]
+pub enum Export {
+    /// What sigrok-cli printed of both wires.
+    Sigrok,
+    /// The table of two Async Serial analyzers of Saleae Logic, or a table for each.
+    Saleae,
+    /// A serial log of two ports, with a timestamp on each line.
+    Log,
 }
 
 /// What is made of the events of a capture, beside the program's own reports.
@@ -85,6 +104,10 @@ pub enum Report {
     Picture(Extent),
     /// A page of the whole session. The judging goes on after each break.
     Page,
+    /// A capture of this export. Nothing is judged.
+    Convert(Export),
+    /// The parts of a capture, each a file of its own. Nothing is judged.
+    Split,
 }
 
 /// What is asked of a picture.
@@ -111,12 +134,37 @@ pub struct Asked {
     pub line_buffered: bool,
 }
 
+/// What the words of an export or of a split say, as they stand; what each may be is judged where it is read.
+#[derive(Debug, Drop, PartialEq, Eq)]
+pub struct ExportWords {
+    /// The deck's file, where an export has a file for each wire.
+    pub deck_file: Option<String>,
+    /// The recording's number of samples a second.
+    pub samplerate: Option<String>,
+    /// The name of the controller's analyzer or port.
+    pub controller: Option<String>,
+    /// The name of the deck's.
+    pub deck: Option<String>,
+    /// What a log's counter counts.
+    pub unit: Option<String>,
+    /// The first time of the export that is converted.
+    pub from: Option<String>,
+    /// The time of the export from which on nothing is converted.
+    pub to: Option<String>,
+    /// What the parts of a split are called.
+    pub name: Option<String>,
+    /// The most rows of a part.
+    pub rows: Option<String>,
+    /// Whether each row is written as soon as it can be.
+    pub live: bool,
+}
+
 /// What the words of the command line ask for.
 #[derive(Debug, Drop, PartialEq, Eq)]
 pub struct Task {
     /// What is asked of the capture.
     pub asked: Asked,
-    /// The file that holds the capture; standard input where there is none.
+    /// The file that holds the capture or the export; standard input where there is none.
     pub file: Option<String>,
     /// The rate of the deck's time code.
     pub rate: Rate,
@@ -124,6 +172,8 @@ pub struct Task {
     pub hands: Hands,
     /// The file that holds the deck's sheet, which says what this deck does of its own; the profile alone where there is none.
     pub deck: Option<String>,
+    /// What the words of an export or of a split say.
+    pub export: ExportWords,
 }
 
 /// Why the words give no task.

@@ -3,9 +3,11 @@ ghost use Rattle.std.specs.Prelude.{◌≡◌, IfOk, false, map};
 ghost use Rattle.std.specs.String.{string_bytes};
 ghost use Rattle.clap.specs.Words.{FailsBy, app_of, fault_of, rule_of, subcommand_of, subcommand_rows_of, with_subcommand};
 ghost use Rattle.clap.specs.declared.builder.command.Command.TheViews.{out-Command as fields_of};
-ghost use Rattle.words9.specs.Words.{AreRateNames, all_rule, app_for, at_rule, bytes_rule, clock_app, deck_rule, file_rule, from_rule, hands_rule, info_app_for, line_buffered_rule, name_of, plain_app_for, program, rate_rule, seconds_rule, sync_rule, to_rule, top, try_app_for, width_rule, with_all_rules, with_bytes_rule, with_picture_rules, with_stretch_rules};
+ghost use Rattle.words9.specs.Words.{AreRateNames, all_rule, app_for, at_rule, bytes_rule, clock_app, deck_rule, file_rule, from_rule, hands_rule, info_app_for, line_buffered_rule, plain_app_for, program, rate_rule, seconds_rule, sync_rule, to_rule, top, try_app_for, width_rule, with_all_rules, with_bytes_rule, with_picture_rules, with_stretch_rules};
 
+use crate::exports::{log, saleae, sigrok, split};
 use crate::task::{VERSION_LINE, Verb};
+use crate::verbs::{about, name_of};
 use clap::{Arg, ArgAction, ArgMatches, Command, Error};
 use std::alloc::{AllocError, Global};
 
@@ -54,7 +56,11 @@ fn whole<'a>(alloc: Global, rates: &'a [&'a str]) -> Result<Command<'a>, AllocEr
     let command = with_verb(alloc, command, Verb::Info, rates)?;
     let command = with_verb(alloc, command, Verb::Try, rates)?;
     let command = with_verb(alloc, command, Verb::Picture, rates)?;
-    with_verb(alloc, command, Verb::Page, rates)
+    let command = with_verb(alloc, command, Verb::Page, rates)?;
+    let command = with_verb(alloc, command, Verb::ConvertSigrok, rates)?;
+    let command = with_verb(alloc, command, Verb::ConvertSaleae, rates)?;
+    let command = with_verb(alloc, command, Verb::ConvertLog, rates)?;
+    with_verb(alloc, command, Verb::Split, rates)
 }
 
 /// A command with the subcommand of a verb.
@@ -95,11 +101,17 @@ fn subcommand<'a>(
         Verb::Clock => return clock(alloc),
         Verb::Info => return info(alloc, rates),
         Verb::Try => return asks_each(alloc, rates),
+        Verb::ConvertSigrok => return sigrok(alloc),
+        Verb::ConvertSaleae => return saleae(alloc),
+        Verb::ConvertLog => return log(alloc),
+        Verb::Split => return split(alloc),
         _ => {}
     }
     let command = plain_subcommand(alloc, verb, rates)?;
     match verb {
-        Verb::Run | Verb::JsonRun | Verb::Clock | Verb::Info | Verb::Try => Ok(command),
+        Verb::Run | Verb::JsonRun => Ok(command),
+        Verb::Clock | Verb::Info | Verb::Try => Ok(command),
+        Verb::ConvertSigrok | Verb::ConvertSaleae | Verb::ConvertLog | Verb::Split => Ok(command),
         Verb::Check | Verb::Why => with_all(alloc, command),
         Verb::JsonCheck | Verb::JsonWhy => with_stretch(alloc, with_all(alloc, command)?),
         Verb::Picture => with_picture(alloc, with_all(alloc, command)?),
@@ -347,62 +359,4 @@ fn seconds<'a>(alloc: Global) -> Arg<'a>
         .long("seconds")
         .action(ArgAction::SetTrue)
         .help("Write the times in seconds")
-}
-
-/// A verb's word. Of `json` with another word the two are one, with a blank between.
-fn name_of<'a>(verb: Verb) -> &'a str
-    ensures { result.now ≡ name_of verb }
-{
-    match verb {
-        Verb::Check => "check",
-        Verb::Explain => "explain",
-        Verb::Run => "run",
-        Verb::Why => "why",
-        Verb::Digest => "digest",
-        Verb::Delays => "delays",
-        Verb::Motion => "motion",
-        Verb::Json => "json",
-        Verb::JsonCheck => "json check",
-        Verb::JsonExplain => "json explain",
-        Verb::JsonRun => "json run",
-        Verb::JsonWhy => "json why",
-        Verb::Clock => "clock",
-        Verb::Info => "info",
-        Verb::Try => "try",
-        Verb::Picture => "picture",
-        Verb::Page => "page",
-    }
-}
-
-/// A verb's line of help.
-fn about<'a>(verb: Verb) -> &'a str {
-    match verb {
-        Verb::Check =>
-            "Say whether the capture keeps the protocol, or which record breaks it first",
-        Verb::Explain =>
-            "The same, after a line for each exchange: command, reply, and what is known of the deck",
-        Verb::Run =>
-            "Write one run of the deck that explains the replies: the deck's state after each exchange",
-        Verb::Why =>
-            "Say why the answer is no: what was open at the break, or which replies contradict one another",
-        Verb::Digest =>
-            "Tell what happened: each command, and each query that changed what is known; others are counted",
-        Verb::Delays => "Count how long the deck took to reply, for each command and overall",
-        Verb::Motion =>
-            "Tell what the deck did after each transport command that it acknowledged; nothing is judged",
-        Verb::Json => "Write a JSON object for each line of explain",
-        Verb::JsonCheck => "Write a JSON object for each line of check",
-        Verb::JsonExplain => "The same as json",
-        Verb::JsonRun => "Write a JSON object for each line of run",
-        Verb::JsonWhy => "Write a JSON object for each line of why",
-        Verb::Clock =>
-            "Write the times of a text as a clock: of a report, of a digest or of a motion",
-        Verb::Info =>
-            "Tell what the capture says of itself, and what to look at before anybody is blamed; nothing is judged",
-        Verb::Try =>
-            "Judge the capture at each frame rate, without hands and with, and with a sheet: a line for each",
-        Verb::Picture =>
-            "Draw the record that breaks a rule, or the replies that contradict one another, as an SVG",
-        Verb::Page => "Make one page of the whole session (HTML), to look at and to send on",
-    }
 }

@@ -3,9 +3,11 @@ ghost use Rattle.std.specs.Prelude.{◌≡◌, ◌≢◌, IfOk, MatchOption, Opt
 ghost use Rattle.std.specs.String.{string_bytes};
 ghost use Rattle.clap.specs.Words.{first_of, found_of, kind_of, rows_of};
 ghost use Rattle.clap.specs.declared.error.Error.{Error as ClapError};
-ghost use Rattle.words9.specs.Words.{AsksVersion, IsNoTask, IsDrawingOf, IsStretchOf, IsTaskOf, MayAskVersion, asked_of, beginning_of, extent_of, is_asked, is_on, joined, name_of, rate_named, rate_of, report_of, shown};
+ghost use Rattle.words9.specs.Words.{AsksVersion, IsNoTask, IsDrawingOf, IsExportOf, IsStretchOf, IsTaskOf, MayAskVersion, asked_of, beginning_of, extent_of, is_asked, is_export, is_on, is_pair, joined, name_of, rate_named, rate_of, report_of, shown};
 
-use crate::task::{Asked, Drawing, Made, NoValue, Report, Task, Verb, WordsFault};
+use crate::task::{
+    Asked, Drawing, Export, ExportWords, Made, NoValue, Report, Task, Verb, WordsFault,
+};
 use crate::times::{read_count, read_time};
 use crate::usage::{parsed, rate_names};
 use clap::error::ErrorKind;
@@ -17,17 +19,20 @@ use tc25::Rate;
 
 /// The task that these words give: those of the command line after the program's own name.
 ///
-/// The words are a subcommand, with it at most one file and, before or after the file, each at most once the options that the
-/// subcommand has (`app_for` of the definitions); or they are `--version` or `-V`. `json` may have the word `check`, `explain`,
-/// `run` or `why` right behind it, and the two are one subcommand. What else the words may look like is `clap`'s own definition.
+/// The words are a subcommand, with it at most one file (two with `convert saleae`) and, before or after it, each at most once the
+/// options that the subcommand has (`app_for` of the definitions); or they are `--version` or `-V`. `json` may have the word `check`,
+/// `explain`, `run` or `why` right behind it, and `convert` has `sigrok`, `saleae` or `log` there; the two are one subcommand. What
+/// else the words may look like is `clap`'s own definition: so a value that begins with a minus sign needs the equals sign before it,
+/// as in `--from=-1.5`.
 ///
 /// * `Ok(task)` only where the definition takes the words. The task asks for the report of the subcommand and its options, and has
-///   the file and the options that the definition gives for the words, and 25 frames a second where they name no rate.
+///   the file and the options that the definition gives for the words, and 25 frames a second where they name no rate. Of the
+///   options of an export or of a split it has the values as they stand: none of them is judged here, and none has to be there.
 /// * `Err(Usage)` only where it does not take them, and they are not those that ask for the version. Words that ask for
 ///   help are not taken.
 /// * `Err(Version)` only where they ask for the version, and that is, or may be, the first thing that stops the definition.
 /// * `Err(NoValue)` only where the definition takes the words, and a value of `--from` or `--to` is no time, or one of `--at` or
-///   `--width` no number that it may be.
+///   `--width` no number that it may be. That of an export is not looked at.
 /// * `Err(NoMemory)` where a growth of memory is refused.
 pub fn read_words(alloc: Global, words: Vec<String>) -> Result<Task, WordsFault>
     ensures task { IfOk result (IsTaskOf (joined (map (λ s. string_bytes s) words.items))) }
@@ -37,7 +42,7 @@ pub fn read_words(alloc: Global, words: Vec<String>) -> Result<Task, WordsFault>
     ensures version { result ≡ Err WordsFault.Version
         → MayAskVersion (joined (map (λ s. string_bytes s) words.items)) }
 {
-    match joined(alloc, words) {
+    match joined(words) {
         Ok(words) => read_joined(alloc, words.as_slice()),
         Err(_) => Err(WordsFault::NoMemory),
     }
@@ -70,6 +75,9 @@ fn read_joined(alloc: Global, words: &[String]) -> Result<Task, WordsFault>
     let Ok(deck) = value_of(alloc, found, "deck") else {
         return Err(WordsFault::NoMemory);
     };
+    let Ok(export) = export_of(alloc, found) else {
+        return Err(WordsFault::NoMemory);
+    };
     let hands = if is_given(found, "hands") {
         Hands::Allowed
     } else {
@@ -83,22 +91,30 @@ fn read_joined(alloc: Global, words: &[String]) -> Result<Task, WordsFault>
         rate,
         hands,
         deck,
+        export,
     })
 }
 
-/// The words, where the first two may be one subcommand: `json` and the report that it is made of.
-fn joined(alloc: Global, words: Vec<String>) -> Result<Vec<String>, AllocError>
+/// The words, where the first two may be one subcommand: `json` and the report that it is made of, or `convert` and the export.
+fn joined(words: Vec<String>) -> Result<Vec<String>, AllocError>
     ensures { IfOk result (λ one. map (λ s. string_bytes s) one.items ≡ joined (map (λ s. string_bytes s) words.items)) }
 {
     let mut words = words;
-    if words.len() < 2 || words[0].as_str() != "json" || !is_asked(words[1].as_str()) {
+    if words.len() < 2 || !is_pair(words[0].as_str(), words[1].as_str()) {
         return Ok(words);
     }
-    let mut both = String::from_str(alloc, "json ")?;
-    both.push_str(words[1].as_str())?;
-    words.remove(0);
+    let mut both = words.remove(0);
+    both.push_str(" ")?;
+    both.push_str(words[0].as_str())?;
     words[0] = both;
     Ok(words)
+}
+
+/// Whether two words are one subcommand.
+fn is_pair(first: &str, second: &str) -> bool
+    ensures { result ≡ is_pair first.now second.now }
+{
+    (first == "json" && is_asked(second)) || (first == "convert" && is_export(second))
 }
 
 /// Whether `json` can be asked for this report.
@@ -106,6 +122,13 @@ fn is_asked(word: &str) -> bool
     ensures { result ≡ is_asked word.now }
 {
     word == "check" || word == "explain" || word == "run" || word == "why"
+}
+
+/// Whether `convert` can be asked for this export.
+fn is_export(word: &str) -> bool
+    ensures { result ≡ is_export word.now }
+{
+    word == "sigrok" || word == "saleae" || word == "log"
 }
 
 /// The stretch that the options name: all of the capture where they name none.
@@ -180,6 +203,24 @@ fn number_of(
     }
 }
 
+/// What the words of an export or of a split say. Another subcommand has none of these.
+fn export_of(alloc: Global, found: &ArgMatches<'_>) -> Result<ExportWords, AllocError>
+    ensures { IfOk result (IsExportOf (rows_of (found_of found.now))) }
+{
+    Ok(ExportWords {
+        deck_file: value_of(alloc, found, "DECK-FILE")?,
+        samplerate: value_of(alloc, found, "samplerate")?,
+        controller: value_of(alloc, found, "controller")?,
+        deck: value_of(alloc, found, "export-deck")?,
+        unit: value_of(alloc, found, "unit")?,
+        from: value_of(alloc, found, "export-from")?,
+        to: value_of(alloc, found, "export-to")?,
+        name: value_of(alloc, found, "part-name")?,
+        rows: value_of(alloc, found, "rows")?,
+        live: is_given(found, "live"),
+    })
+}
+
 /// What the subcommand of this verb asks of the capture, by its options, where this stretch is shown and this is asked of a picture.
 fn asked_of(verb: Verb, found: &ArgMatches<'_>, stretch: Stretch, drawing: Drawing) -> Asked
     ensures { result ≡ asked_of verb (rows_of (found_of found.now)) stretch drawing }
@@ -221,6 +262,10 @@ fn report_of(verb: Verb, all: bool, bytes: bool, seconds: bool) -> Report
         Verb::Try => Report::Try(extent_of(all)),
         Verb::Picture => Report::Picture(extent_of(all)),
         Verb::Page => Report::Page,
+        Verb::ConvertSigrok => Report::Convert(Export::Sigrok),
+        Verb::ConvertSaleae => Report::Convert(Export::Saleae),
+        Verb::ConvertLog => Report::Convert(Export::Log),
+        Verb::Split => Report::Split,
     }
 }
 
@@ -292,6 +337,10 @@ fn verb_of(name: &str) -> Option<Verb>
         "try" => Some(Verb::Try),
         "picture" => Some(Verb::Picture),
         "page" => Some(Verb::Page),
+        "convert sigrok" => Some(Verb::ConvertSigrok),
+        "convert saleae" => Some(Verb::ConvertSaleae),
+        "convert log" => Some(Verb::ConvertLog),
+        "split" => Some(Verb::Split),
         _ => None,
     }
 }

@@ -40,9 +40,18 @@ fn judged(alloc: Global, text: &str, report: Report, writer: Narrow) -> Option<(
     let named = Named {
         file: None,
         sheet: None,
+        export: ExportWords::default(),
+        deck_text: None,
     };
     let job = Job { asked, profile };
-    let end = judge_and_flush(alloc, text.as_bytes(), &mut out, job, &named);
+    let end = judge_and_flush(
+        alloc,
+        text.as_bytes(),
+        &mut out,
+        job,
+        &named,
+        &|name: &str| no_part(name),
+    );
     Some((end, out.into_writer()))
 }
 

@@ -56,6 +56,11 @@ fn no_sheet<'a>(_file: &String) -> io::Result<&'a [u8]> {
     Err(io::Error::from(io::ErrorKind::NotFound))
 }
 
+/// Parts, of which none can be made.
+pub(super) fn no_part(_name: &str) -> io::Result<Narrow> {
+    Err(io::Error::from(io::ErrorKind::NotFound))
+}
+
 /// The end of the program on these words, before this writer.
 fn end_on(rt: &HostRuntime, words: &[&str], writer: Narrow) -> (End, Narrow) {
     let words = words_of(rt.alloc(), words).map_err(|_| WordsFault::NoMemory);
@@ -64,6 +69,7 @@ fn end_on(rt: &HostRuntime, words: &[&str], writer: Narrow) -> (End, Narrow) {
         words,
         |file| no_sheet(file),
         |file| opened(file),
+        |name| no_part(name),
         writer,
     )
 }
@@ -85,6 +91,7 @@ fn there_may_be_no_words(rt: HostRuntime) {
         words,
         |file| no_sheet(file),
         |file| opened(file),
+        |name| no_part(name),
         writer,
     );
     let is_usage = matches!(&end, End::Usage(None));
@@ -95,6 +102,7 @@ fn there_may_be_no_words(rt: HostRuntime) {
         words,
         |file| no_sheet(file),
         |file| opened(file),
+        |name| no_part(name),
         writer,
     );
     same(&rt, is_told(&end, 5, Message::NoMemory), true, "no memory");
@@ -134,13 +142,13 @@ fn a_file_that_is_not_opened(rt: HostRuntime) {
 fn the_version_is_told(rt: HostRuntime) {
     let (end, writer) = end_on(&rt, &["-V"], Narrow::new(rt.alloc(), usize::MAX));
     same(&rt, is_told(&end, 0, Message::Nothing), true, "-V");
-    took(&rt, &writer, b"ninecheck 1.1.0\n", 0, 1);
+    took(&rt, &writer, b"ninecheck 2.0.0\n", 0, 1);
     let (end, writer) = end_on(&rt, &["-V"], Narrow::new(rt.alloc(), 4));
     same(&rt, is_told(&end, 4, Message::WriteFault), true, "no room");
     took(&rt, &writer, b"nine", 1, 0);
     let (end, writer) = end_on(&rt, &["-V"], Narrow::that_fails_to_flush(rt.alloc()));
     same(&rt, is_told(&end, 4, Message::WriteFault), true, "no flush");
-    took_to_the_end(&rt, &writer, b"ninecheck 1.1.0\n");
+    took_to_the_end(&rt, &writer, b"ninecheck 2.0.0\n");
 }
 
 #[test]

@@ -1,4 +1,5 @@
-use Rattle.std.proofs.Common.{ap, inr, ◌∙◌}
+use Rattle.std.proofs.Common.{ap, inl, inr, ◌∙◌}
+use Rattle.std.proofs.KnownBytes.{Keeps-refl}
 use Rattle.program9.specs.Header.{with_header}
 use Rattle.program9.specs.Outcome.{told_after}
 use Rattle.program9.proofs.BufferLemmas.{holds_nothing}
@@ -22,3 +23,6 @@ returns-in-Ok g c =
       failed = _;
       ends = c.taken_back.ensures.end ∙ ap (told_after _) (c.with_header-judged.ensures ∙ ap (λ file. with_header file found c.judge_and_flush-judged.result) c.in-Ok.ensures.file);
     }
+
+pub returns : goal.returns
+returns g c = inl (c.in-Err.ensures.ends, rw c.in-Err.ensures.untouched (Keeps-refl _))

@@ -1,0 +1,58 @@
+//! Digits, as exports and captures have them.
+ghost use Rattle.std.specs.Prelude.{◌≡◌, ◌<◌};
+ghost use Rattle.convert9.specs.Spelled.{hex};
+
+/// The digits that a text begins with, and what comes after them.
+pub(crate) fn split_digits(text: &[u8]) -> (&[u8], &[u8]) {
+    let count = text.iter().take_while(|byte| byte.is_ascii_digit()).count();
+    text.split_at(count.min(text.len()))
+}
+
+/// The number that decimal digits are. More than a `u64` holds is its limit.
+pub(crate) fn number_of(digits: &[u8]) -> u64 {
+    digits.iter().fold(0, with_digit)
+}
+
+/// A number with one more digit behind it.
+pub(crate) fn with_digit(number: u64, byte: &u8) -> u64 {
+    number.saturating_mul(10).saturating_add(digit(*byte))
+}
+
+/// What a decimal digit counts.
+fn digit(byte: u8) -> u64 {
+    u64::from(byte.wrapping_sub(b'0'))
+}
+
+/// The byte that two hexadecimal digits are.
+pub(crate) fn byte_of(text: &[u8]) -> Option<u8> {
+    match text {
+        [high, low] => Some(
+            hex_value(*high)?
+                .wrapping_mul(16)
+                .wrapping_add(hex_value(*low)?),
+        ),
+        _ => None,
+    }
+}
+
+/// What a hexadecimal digit counts.
+fn hex_value(byte: u8) -> Option<u8> {
+    match byte {
+        b'0'..=b'9' => Some(byte.wrapping_sub(b'0')),
+        b'A'..=b'F' => Some(byte.wrapping_sub(b'A').wrapping_add(10)),
+        b'a'..=b'f' => Some(byte.wrapping_sub(b'a').wrapping_add(10)),
+        _ => None,
+    }
+}
+
+/// A hexadecimal digit, in upper case.
+pub(crate) fn hex_digit(value: u8) -> u8
+    requires { value < 16 }
+    ensures { result ≡ hex value }
+{
+    if value < 10 {
+        b'0' + value
+    } else {
+        b'A' + value - 10
+    }
+}
