@@ -20,7 +20,7 @@ is_composed() {
 
 # compare NAME HANDS: check, explain and why of a capture, from its file or from standard input, with the words in another order.
 compare() {
-    local verb words= want
+    local verb words='' want
     [ "$2" = 0 ] || words=--hands
     for verb in check explain why; do
         want=1

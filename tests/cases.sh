@@ -82,7 +82,7 @@ breaks_of() { grep -E '^(no at record|breaks) ' "$1"; }
 # ends_so WORDS...: whatever is asked of this capture, with hands, at a rate, and to its end or not as these words say, the end is
 # the same.
 ends_so() {
-    local verb hands= rate= asked=" $* "
+    local verb hands='' rate='' asked=" $* "
     case $asked in *' --hands '*) hands=--hands ;; esac
     case $asked in *' --rate '*) rate=${asked#* --rate } && rate="--rate ${rate%% *}" ;; esac
     for verb in check explain run why; do

@@ -126,7 +126,7 @@ new_tree "$crates"
 touch "$work/told/slow-high"
 (cd "$tree" && PATH="$work/bin:$PATH" exec make/prove.sh) > "$work/said" 2> "$work/err" < /dev/null &
 job=$!
-for tenth in $(seq 600); do [ -e "$work/told/begun-high" ] || sleep 0.1; done
+for _ in $(seq 600); do [ -e "$work/told/begun-high" ] || sleep 0.1; done
 (cd "$tree" && PATH="$work/bin:$PATH" make/prove.sh) > "$work/second" 2>&1 < /dev/null
 judge 'a second make beside the first is refused' grep -qxF 'another `make` is proving here: wait until it has ended' "$work/second"
 kill -TERM "$job"

@@ -260,7 +260,7 @@ parse() {
     judge "$1: tidy finds nothing" [ ! -s "$work/err" ]
     judge "$1: html5lib finds nothing" /usr/bin/python3 -B -c 'import html5lib, sys
 html5lib.HTMLParser(strict=True).parse(open(sys.argv[1], "rb"))' "$work/out"
-    lacks "$1" '<script' 'http' 'src=' '@import' 'url(' ' on'load
+    lacks "$1" '<script' 'http' 'src=' '@import' 'url(' ' onload'
     grep -o 'href="#[^"]*"' "$work/out" | cut -d '"' -f 2 | sort -u | tr -d '#' > "$work/named"
     grep -o ' id="[^"]*"' "$work/out" | cut -d '"' -f 2 | sort > "$work/there"
     judge "$1: each link leads somewhere" [ -z "$(comm -23 "$work/named" <(sort -u "$work/there"))" ]

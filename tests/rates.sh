@@ -36,22 +36,6 @@ for verb in check explain run why; do
     done
 done
 
-# At 25 everything is as without a rate.
-for capture in examples/*.csv examples/views/*.csv; do
-    for words in check explain run why 'check --hands' 'explain --hands' 'run --hands' 'why --hands' 'check --all' 'explain --all' 'why --all'; do
-        # shellcheck disable=SC2086
-        run $words "$capture"
-        wanted=$status
-        mv "$work/out" "$work/out_without"
-        mv "$work/err" "$work/err_without"
-        # shellcheck disable=SC2086
-        run $words --rate 25 "$capture"
-        judge "$words --rate 25 $capture" [ "$status" = "$wanted" ]
-        judge "$words --rate 25 $capture, what it writes" cmp -s "$work/out" "$work/out_without"
-        judge "$words --rate 25 $capture, what it says" cmp -s "$work/err" "$work/err_without"
-    done
-done
-
 # Words that are no rate, and a rate where there can be none.
 for verb in check explain run why; do
     for rate in 23 29 29.97 30df 29.97DF 29.97ndf 60 NTSC ''; do

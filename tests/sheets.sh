@@ -267,8 +267,6 @@ breaks 1: records 12, exchanges 1, passed over 6, open 0"
 sheet eject '[forgets]' '"20 0f" = "registers"'
 sheet eject_motion '[forgets]' '"20 0F" = "motion"'
 eject="C 20 0F 2F $ack"
-shows_eject='C 61 20 03 84 D 73 20 00 10 00 A3'
-shows_stop='C 61 20 03 84 D 73 20 00 20 00 B3'
 shows_stop_in_local='C 61 20 03 84 D 73 20 01 20 00 B4'
 shows_eject_in_local='C 61 20 03 84 D 73 20 01 10 00 A4'
 # In REMOTE: the points are lost, and nothing else. EJECT has its effect.

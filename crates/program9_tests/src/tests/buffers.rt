@@ -1,5 +1,6 @@
 //! What a buffer hands on, to a writer that takes a byte a call.
 
+use crate::tests::programs::no_part;
 use crate::tests::same;
 use crate::tests::writers::{Narrow, took, took_to_the_end};
 use deck9::{Hands, Profile};
@@ -7,7 +8,7 @@ use program9::{Buffered, Job, Message, Named, Outcome, judge_and_flush};
 use report9::{Beginning, Detail, Stretch, View};
 use std::alloc::{AllocError, Global};
 use std::io::Write;
-use words9::{Asked, Drawing, Report};
+use words9::{Asked, Drawing, ExportWords, Report};
 
 /// PLAY and its acknowledgement.
 const PLAY: &str =
@@ -40,7 +41,7 @@ fn judged(alloc: Global, text: &str, report: Report, writer: Narrow) -> Option<(
     let named = Named {
         file: None,
         sheet: None,
-        export: ExportWords::default(),
+        export: no_words(),
         deck_text: None,
     };
     let job = Job { asked, profile };
@@ -53,6 +54,22 @@ fn judged(alloc: Global, text: &str, report: Report, writer: Narrow) -> Option<(
         &|name: &str| no_part(name),
     );
     Some((end, out.into_writer()))
+}
+
+/// Of an export nothing is said.
+fn no_words() -> ExportWords {
+    ExportWords {
+        deck_file: None,
+        samplerate: None,
+        controller: None,
+        deck: None,
+        unit: None,
+        from: None,
+        to: None,
+        name: None,
+        rows: None,
+        live: false,
+    }
 }
 
 /// The end of a yes.
