@@ -40,7 +40,6 @@ built:
 install: built
 	install -D -m 755 ninecheck "$(to)/bin/ninecheck"
 	install -D -m 755 $(PROGRAM) "$(to)/lib/ninecheck/ninecheck"
-	install -D -m 644 -t "$(to)/share/ninecheck/view" view/*.*
 	install -D -m 644 -t "$(to)/share/ninecheck/decks" decks/*.toml
 	install -D -m 644 -t "$(to)/share/ninecheck/examples" examples/*.csv examples/*.toml examples/ANSWERS
 	install -D -m 644 -t "$(to)/share/ninecheck/examples/exports" examples/exports/*

@@ -3,31 +3,45 @@
 # takes a moment on a machine that is not busy. Nothing is proved. What each prints comes once all have ended; the last lines tell the
 # slowest, and count all checks.
 #
-#   make/check.sh [SCRIPT...]   these scripts of tests/ alone
+#   make/check.sh [SCRIPT|ROOM...]   these scripts of tests/, or those of these rooms, alone
 set -u
 cd "$(dirname "$0")/.." || exit 1
 logs=$(mktemp -d) || exit 1
 trap 'rm -rf "$logs"' EXIT
 export logs
 
-scripts=("$@")
-[ $# -gt 0 ] || scripts=(tests/*.sh)
+[ $# -gt 0 ] || set -- tests/*/
+scripts=()
+for named; do
+    # What stands in lib is sourced.
+    case $named in
+        tests/lib | tests/lib/) ;;
+        *.sh) scripts+=("$named") ;;
+        *) for script in "${named%/}"/*.sh; do [ ! -f "$script" ] || scripts+=("$script"); done ;;
+    esac
+done
+
+# log_of SCRIPT: where what it prints is kept.
+log_of() { echo "$logs/${1//\//-}"; }
 
 run_script() {
     local begun=$SECONDS
-    bash "$1" > "$logs/${1##*/}" 2>&1
+    bash "$1" > "$(log_of "$1")" 2>&1
     echo "$((SECONDS - begun)) s $1" >> "$logs/times"
 }
-export -f run_script
-# The largest begin first.
-stat -c '%s %n' -- "${scripts[@]}" | sort -rn | cut -d ' ' -f 2- | xargs -P "$(nproc)" -I {} bash -c 'run_script {}'
+export -f run_script log_of
+# Those that take long begin first.
+slow=' tests/program/long.sh tests/program/faults.sh tests/judging/all.sh tests/judging/drawn.sh tests/program/growths.sh tests/judging/sync.sh '
+for script in "${scripts[@]}"; do
+    case $slow in *" $script "*) echo "1 $script" ;; *) echo "2 $script" ;; esac
+done | sort -s -n | cut -d ' ' -f 2- | xargs -P "$(nproc)" -I {} bash -c 'run_script {}'
 
 passed=0
 failed=0
 # A script without its last line, 'N passed, M failed', has failed.
 for script in "${scripts[@]}"; do
-    cat "$logs/${script##*/}"
-    counts=$(grep -aE '^[0-9]+ passed, [0-9]+ failed' "$logs/${script##*/}" | tail -n 1)
+    cat "$(log_of "$script")"
+    counts=$(grep -aE '^[0-9]+ passed, [0-9]+ failed' "$(log_of "$script")" | tail -n 1)
     read -r good _ bad _ <<< "${counts:-0 passed, 1 failed}"
     passed=$((passed + good))
     failed=$((failed + bad))

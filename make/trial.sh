@@ -38,7 +38,7 @@ name_files() {
         fi
         case $options$word in
             true--) options=false ;;
-            true--hands | true--sync | true--all | true--line-buffered | true--bytes | true--seconds | true--live) ;;
+            true--hands | true--sync | true--all | true--line-buffered | true--bytes | true--seconds | true--live | true--quiet) ;;
             true--*)
                 case " $with_value " in
                     *" $word "*) awaits=$word ;;
@@ -61,7 +61,7 @@ name_file() {
     case $3 in '' | /*) ;; *) named+=("$3"); words[$1]=$2$PWD/$3 ;; esac
 }
 case ${1-} in
-    check | explain | run | why | digest | delays | motion | json | clock | info | try | picture | page | split) name_files ;;
+    check | explain | run | why | digest | delays | motion | json | clock | info | try | touches | picture | page | split) name_files ;;
     convert)
         case ${2-} in
             sigrok | saleae | log) name_files ;;

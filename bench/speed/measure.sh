@@ -102,7 +102,7 @@ def instructions(words, capture):
                                  stdin=text, stdout=to, stderr=subprocess.PIPE, text=True, check=True)
     return int(re.search(r'Collected : (\d+)', counted.stderr).group(1)) / COUNTED
 
-check, explain, run, why = ([program, verb] for verb in ('check', 'explain', 'run', 'why'))
+check, explain, run, why = ([program, *words.split()] for words in ('check', 'explain', 'run', 'why --quiet'))
 for name, exchanges in (('PLAY and ACK', lambda turn: PLAY), ('mixed traffic', mixed)):
     capture = f'{work}/capture.csv'
     write(capture, all_turns(exchanges), RECORDS)

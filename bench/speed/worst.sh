@@ -78,7 +78,8 @@ def cost(words, answer, stack=None):
         return used.ru_utime + used.ru_stime, used.ru_maxrss
 
 def told(name, verb, answer, *words):
-    seconds, memory = cost([program, verb, *words], answer)
+    quiet = ['--quiet'] if verb == 'why' else []
+    seconds, memory = cost([program, verb, *quiet, *words], answer)
     print(f'{name}: {verb} {seconds:.2f} s, {seconds / checked:.1f} times check, {memory / 1000:.0f} MB', flush=True)
     return seconds
 

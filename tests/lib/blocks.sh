@@ -12,22 +12,28 @@ preset="C 44 14 00 00 00 10 68 $ack"
 local_at_10='C 61 20 04 85 D 74 20 01 20 00 01 B6 C 60 10 70 D 74 10 00 00 00 10 94'
 shift="C 40 18 58 $ack"
 
-# records RECORDS [TIMES]: writes a capture of these records, so often, 400 microseconds apart: wire letters, each before the
-# bytes that it brings. `+N` lets the line rest N microseconds more.
+# records RECORDS [TIMES]: writes a capture of these records, so often; tests/lib/records.awk tells their words.
 records() {
-    echo "$1" | awk -v times="${2-1}" '
-        { for (k = 1; k <= NF; k++) word[++words] = $k }
-        END {
-            print "time_us,wire,byte"
-            for (turn = 0; turn < times; turn++)
-                for (k = 1; k <= words; k++)
-                    if (word[k] ~ /^[CD]$/) wire = word[k]
-                    else if (word[k] ~ /^[+]/) time += substr(word[k], 2)
-                    else printf "%.0f,%s,%s\n", time += 400, wire, word[k]
-        }'
+    awk -v turns="${2-1}" -f tests/lib/records.awk <<< "$1"
 }
 
 # capture_of RECORDS: makes $work/capture.csv of them.
 capture_of() {
     records "$1" > "$work/capture.csv"
+}
+
+# repeated N RECORDS: these records so often, between others.
+repeated() {
+    local k
+    for ((k = 0; k < $1; k++)); do echo "$2"; done
+}
+
+# draw_captures N FOLDER, damage_captures N FOLDER: draws captures, and damages those that were drawn. The heads of the two programs
+# tell what they write.
+draw_captures() {
+    "${AWK:-awk}" -v number="$1" -v folder="$2" -f tests/lib/chance.awk -f tests/lib/deck.awk -f tests/lib/records.awk \
+        -f tests/lib/drawing.awk
+}
+damage_captures() {
+    "${AWK:-awk}" -v number="$1" -v folder="$2" -f tests/lib/chance.awk -f tests/lib/records.awk -f tests/lib/damaging.awk
 }

@@ -15,12 +15,3 @@ into_closed() {
     status=$(cat "$work/status")
     : > "$work/out"
 }
-
-# is_silent: the run of an awk ended as one does that a signal of the pipe ends, and said nothing. Under its option --posix gawk does not tell
-# what became of a pipe, so there it ended well.
-is_silent() {
-    case $awk in
-        *--posix) [ "$status" = 0 ] && [ ! -s "$work/err" ] ;;
-        *) [ "$status" = 141 ] && [ ! -s "$work/err" ] ;;
-    esac
-}

@@ -1,7 +1,7 @@
-# Damages captures as lines and machines do: awk -v number=N -v folder=FOLDER -f tests/lib/chance.awk -f tests/lib/damaging.awk. Capture i, the one after it
-# and the next, which are FOLDER/i.csv and so on, stand one after the other in FOLDER/i-damaged.csv, with up to six faults: bytes
-# that come late, are lost, come twice, have another bit, come on both wires or on the other one, a time that is none,
-# another kind of reply, and none, and late replies, one or several. Every run damages the same.
+# Damages captures as lines and machines do, as `damage_captures` of tests/lib/blocks.sh runs it. Capture i, the one after it and the
+# next, which are FOLDER/i.csv and so on, stand one after the other in FOLDER/i-damaged.csv, with up to six faults: bytes that come
+# late, are lost, come twice, have another bit, come on both wires or on the other one, a time that is none, another kind of reply, and
+# none, and late replies, one or several. Every run damages the same.
 
 BEGIN {
     seed = 40009
@@ -31,9 +31,9 @@ function take(file,    row, part) {
     close(file)
 }
 
-function put(file,    k, now) {
-    print "time_us,wire,byte" > file
-    for (k = 1; k <= records; k++) print (now += gap[k]) "," wire[k] "," byte[k] > file
+function put(file,    k) {
+    begin_records(file)
+    for (k = 1; k <= records; k++) { put_record("+" gap[k]); put_record(wire[k]); put_record(byte[k]) }
     close(file)
 }
 

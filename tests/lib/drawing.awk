@@ -1,7 +1,6 @@
-# Draws captures: awk -v number=N -v folder=FOLDER -f tests/lib/chance.awk -f tests/lib/deck.awk -f tests/lib/drawing.awk. Capture i is written to
-# FOLDER/i.csv, and a line for it to standard output: i, whether it is to be judged with hands, and its exchanges as
-# read_capture reads them. The replies are those of a deck that takes one way of those that it has; in most captures one of
-# them is then spoilt. Every run draws the same.
+# Draws captures, as `draw_captures` of tests/lib/blocks.sh runs it. Capture i is written to FOLDER/i.csv, and a line for it to standard
+# output: i, whether it is to be judged with hands, and its exchanges as read_capture reads them. The replies are those of a deck that
+# takes one way of those that it has; in most captures one of them is then spoilt. Every run draws the same.
 
 BEGIN {
     deck_setup()
@@ -231,18 +230,12 @@ function drawn_line(with_hands, spoils,    n, i, k, command, reply, line, senses
     return line
 }
 
-function write_capture(file, line,    part, side, word, n, m, i, k, time_us, wire) {
-    print "time_us,wire,byte" > file
-    n = split(line, part, ";")
-    for (i = 1; i <= n; i++) {
-        split(part[i], side, ">")
-        for (wire = 1; wire <= 2; wire++) {
-            m = split(side[wire], word, " ")
-            for (k = 1; k <= m; k++) {
-                time_us += 400
-                print time_us (wire == 1 ? ",C," : ",D,") word[k] > file
-            }
-        }
-    }
+# A line has exchanges parted by semicolons, each a command and its reply with a > between.
+function write_capture(file, line,    word, n, k) {
+    begin_records(file)
+    gsub(/>/, " D ", line)
+    gsub(/;/, " C ", line)
+    n = split("C " line, word, " ")
+    for (k = 1; k <= n; k++) put_record(word[k])
     close(file)
 }

@@ -46,6 +46,20 @@ is_text() {
     [ "$status" = "$1" ] && cmp -s "$work/out" "$work/want" && cmp -s "$work/err" "$work/want_err"
 }
 
+# judge_all NAME COMMAND...: counts what another script of checks counts, whose last line is 'N passed, M failed', and shows what it finds
+# wrong. One without that line has failed.
+judge_all() {
+    "${@:2}" > "$work/judged" 2>&1
+    if [[ $(tail -n 1 "$work/judged") =~ ^([0-9]+)' passed, '([0-9]+)' failed'$ ]]; then
+        passed=$((passed + BASH_REMATCH[1]))
+        failed=$((failed + BASH_REMATCH[2]))
+        sed '$d' "$work/judged"
+    else
+        cat "$work/judged"
+        fail "$1"
+    fi
+}
+
 # tell_counts: the last line of a script, whose status it answers.
 tell_counts() {
     echo "$passed passed, $failed failed"

@@ -3,10 +3,11 @@
 program=${NINECHECK:-$PWD/crates/ninecheck/out/ninecheck}
 
 # run WORDS...: the program with these words, on the standard input that it is given; its streams are left in $work/out and
-# $work/err.
+# $work/err. What `why` says to ask next is left out: tests/try.sh has that.
 run() {
     "$program" "$@" > "$work/out" 2> "$work/err"
     status=$?
+    case ${1-} in why) sed -i '/^next: /d' "$work/err" ;; esac
 }
 
 # has_verdict STATUS LINE: the last run ended with this status and this last line, and said nothing.

@@ -2,6 +2,8 @@
 ghost use Rattle.std.specs.Prelude.{◌≡◌, ◌<◌};
 ghost use Rattle.convert9.specs.Spelled.{hex};
 
+use hex::decode_to_slice;
+
 /// The digits that a text begins with, and what comes after them.
 pub(crate) fn split_digits(text: &[u8]) -> (&[u8], &[u8]) {
     let count = text.iter().take_while(|byte| byte.is_ascii_digit()).count();
@@ -25,24 +27,9 @@ fn digit(byte: u8) -> u64 {
 
 /// The byte that two hexadecimal digits are.
 pub(crate) fn byte_of(text: &[u8]) -> Option<u8> {
-    match text {
-        [high, low] => Some(
-            hex_value(*high)?
-                .wrapping_mul(16)
-                .wrapping_add(hex_value(*low)?),
-        ),
-        _ => None,
-    }
-}
-
-/// What a hexadecimal digit counts.
-fn hex_value(byte: u8) -> Option<u8> {
-    match byte {
-        b'0'..=b'9' => Some(byte.wrapping_sub(b'0')),
-        b'A'..=b'F' => Some(byte.wrapping_sub(b'A').wrapping_add(10)),
-        b'a'..=b'f' => Some(byte.wrapping_sub(b'a').wrapping_add(10)),
-        _ => None,
-    }
+    let mut bytes = [0];
+    decode_to_slice(text, &mut bytes).ok()?;
+    Some(bytes[0])
 }
 
 /// A hexadecimal digit, in upper case.

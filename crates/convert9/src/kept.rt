@@ -3,13 +3,13 @@
 use crate::fault::ConvertFault;
 use crate::lines::Line;
 use crate::range::TimeRange;
-use crate::write::write_capture;
+use crate::write::{TOO_LATE_US, write_capture};
 use capture9::{LineByte, Wire};
 use std::alloc::Global;
 use std::io::Write;
 
 /// The greatest time of a capture: fifteen digits, in microseconds.
-const MOST_US: i64 = 999_999_999_999_999;
+const MOST_US: i64 = TOO_LATE_US as i64 - 1;
 
 /// Why a byte can't be kept.
 #[derive(Clone, Copy, PartialEq, Eq)]

@@ -24,5 +24,5 @@ pub use fault::{ConvertFault, Refusal, Wrong};
 pub use log::{LogWords, Notice, convert_log};
 pub use saleae::{SaleaeWords, convert_saleae};
 pub use sigrok::{SigrokWords, convert_sigrok};
-pub use split::{MOST_PART_ROWS, Split, SplitFault, SplitWords, part_name, split_capture};
+pub use split::{Split, SplitFault, SplitWords, part_name, split_capture};
 pub use write::{CaptureWriter, RowFault, write_capture};

@@ -71,6 +71,7 @@ impl Line<'_> {
     pub(crate) fn refused_words(&self, what: &str) -> ConvertFault {
         refused_words(self.alloc, self.number, what, b"")
     }
+
     /// That a byte of this line can't be kept.
     pub(crate) fn unkept(&self, fault: KeepFault) -> ConvertFault {
         match fault {

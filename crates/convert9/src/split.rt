@@ -5,13 +5,14 @@
 use crate::digits::{number_of, split_digits};
 use crate::fault::{Refusal, Wrong};
 use crate::write::{CaptureWriter, RowFault};
-use capture9::{CaptureError, GREATEST_LIMIT, LineByte, Records, Wire};
+use capture9::{CaptureError, GREATEST_LIMIT, LineByte, MOST_ROWS, Records, Wire};
 use itoa::Buffer;
 use std::alloc::{AllocError, Global};
 use std::io::{self, Read, Write};
 
-/// The most rows of a part where the words say no other number, and the most that they can say.
-pub const MOST_PART_ROWS: u64 = 4_000_000;
+/// The most rows of a part where the words say no other number, and the most that they can say: as many as a capture may have that is
+/// judged to its first break.
+const MOST_PART_ROWS: u64 = MOST_ROWS as u64;
 
 /// What the words say of a split, as they stand.
 #[derive(Clone, Copy)]

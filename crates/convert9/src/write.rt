@@ -27,7 +27,7 @@ pub enum RowFault {
 }
 
 /// The least time that a capture can't have, in microseconds: it has sixteen digits.
-const TOO_LATE_US: u64 = 1_000_000_000_000_000;
+pub(crate) const TOO_LATE_US: u64 = 1_000_000_000_000_000;
 
 /// A capture that is written record by record.
 ///

@@ -2,7 +2,11 @@
 use Rattle.deck9.proofs.Words.{[], arith, arrives, Block, Command, Deck, DeckStep, done, Drift, Exchange, halts, handled, HasRun, ignored, IsRunFrom, IsState, List, Move}
 use Rattle.deck9.proofs.Words.{Moves, Option, passes, Profile, refused, State, ◌∷◌}
 use Rattle.deck9.proofs.Words.{Bool, false, Forgets, ForgetsNoMore, forgotten_beside, forgotten_with, head_of, is_nak, true, if◌then◌else◌, Nothing, forgetting}
-use Rattle.deck9.specs.Laws.{PassesNoMore}
+use Rattle.deck9.proofs.Words.{Does, Effect, effect_of, Forgotten, ModeSet, Motion, None, Sense, sense_of, Some, unlisted_effect, ℕ}
+use Rattle.block9.specs.declared.command.Command.TheVariants as Command
+use Rattle.deck9.specs.declared.sense.Sense.TheVariants as sense
+use Rattle.deck9.specs.Deck.{named_beside, unless_sensed}
+use Rattle.deck9.specs.Laws.{DoesNoMore, IsNoMore, PassesNoMore, SaysNoMore}
 use Rattle.deck9.proofs.DriftLemmas.{pairs_from_drift, same_entries}
 use Rattle.deck9.proofs.EffectLemmas.{does_valid}
 use Rattle.deck9.proofs.RestLemmas.{step_valid}
@@ -48,3 +52,38 @@ module _ (p : Profile) (less more : Option Deck) (forgets : ForgetsNoMore p less
 
   pub no_more_runs : (es : List Exchange) → HasRun (with_deck less) es → HasRun (with_deck more) es
   no_more_runs es r = record { first = r.first; is_first = r.is_first; after = r.after; is_run = runs_more es r.first r.after r.is_first.0 r.is_run }
+
+-- ---- in a sheet's own words
+
+-- a word that forgets no more leads to no more states, of whichever deck
+word_leads : (p : Profile) (one other : Option Deck) (less more : Forgotten) (s t : State) → IsState p.rate s → IsNoMore less more
+    → Forgets (record p { deck = one }) less s t → Forgets (record p { deck = other }) more s t
+word_leads p one other less more s t valid no_more forgot = let after = does_valid p (forgetting less) s t valid in grind arith
+
+effect_leads : (p : Profile) (one other : Option Deck) (fewer goals : Option ModeSet) (less more : Forgotten) (s t : State) → IsState p.rate s
+    → DoesNoMore fewer less goals more
+    → Does (record p { deck = one }) (unlisted_effect fewer less) s t → Does (record p { deck = other }) (unlisted_effect goals more) s t
+effect_leads p one other None None less more s t valid no_more does = word_leads p one other less more s t valid no_more does
+effect_leads p one other None (Some goals) less more s t valid no_more does = grind arith
+effect_leads p one other (Some fewer) None less more s t valid no_more does = let after = does_valid p (Effect.KeepOr fewer) s t valid in grind arith
+effect_leads p one other (Some fewer) (Some goals) less more s t valid no_more does = grind (arith, no_more)
+
+pub says_no_more : (p : Profile) (less more : Option Deck) → SaysNoMore less more → ForgetsNoMore p less more
+says_no_more p less more says = record {
+  effects = λ c s t valid does. by_command c s t valid does;
+  beside = λ c head s t valid forgot. by_sense (sense_of c) head s t valid forgot;
+}
+  where
+    by_command : (c : Command) (s t : State) → IsState p.rate s → Does (record p { deck = less }) (effect_of less c) s t → Does (record p { deck = more }) (effect_of more c) s t
+    by_command (Command.Unlisted head) s t valid does = effect_leads p less more _ _ _ _ s t valid (says.unlisted head) does
+    by_command c s t valid does = grind arith
+
+    by_sense : (asked : Sense) (head : ℕ) (s t : State) → IsState p.rate s → Forgets (record p { deck = less }) (unless_sensed asked (named_beside less head)) s t
+        → Forgets (record p { deck = more }) (unless_sensed asked (named_beside more head)) s t
+    by_sense sense.Nothing head s t valid forgot = word_leads p less more _ _ s t valid (says.beside head) forgot
+    by_sense _ head s t valid forgot = forgot
+
+pub goals_no_more : (p : Profile) (goals : ModeSet) (beside all : Forgotten) (s u t : State) → IsState p.rate s → IsNoMore Motion all → IsNoMore beside all
+    → Does p (Effect.KeepOr goals) s u → Forgets p beside u t → Forgets p all s t
+goals_no_more p goals beside all s u t valid motion no_more does forgot =
+    let after = does_valid p (forgetting beside) u t (does_valid p (Effect.KeepOr goals) s u valid does) forgot in grind arith

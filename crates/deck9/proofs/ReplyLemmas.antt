@@ -1,5 +1,5 @@
 -- A right reply to each command in each state, and a step with it.
-use Rattle.deck9.proofs.Words.{Deck, forgetting, Forgotten, forgotten_at, listed_effect, Option, ◌≢◌}
+use Rattle.deck9.proofs.Words.{Deck, Forgotten, forgotten_at, goals_at, listed_effect, ModeSet, Option, unlisted_effect, ◌≢◌}
 use Rattle.deck9.proofs.Words.{ap, bytes_read, given_reads, KeepsPanel, label_of, Profile, Rate, SetsInDay, switched, Register}
 use Rattle.tc25.proofs.DayLemmas.{label_bytes_low, label_named, some_day}
 use Rattle.deck9.proofs.Words.{[], All, All-cons, All-nil, arith, At, Becomes, Block, bytes_of, Change, Clear, Command, datum, day, Does, done, Effect, effect_of, Entry, entry_of, false}
@@ -106,12 +106,12 @@ right_reply rate s (Command.StatusSense asked) valid = made rate s _ (block 7 0x
     refl (shows_asked rate s (Command.StatusSense asked) (block 7 0x20 []) (no_status s asked))
 right_reply rate s c valid = made rate s c (block 1 0x01 []) (omega arith) (omega arith) (omega arith) no_bytes refl refl refl tt
 
--- what is forgotten changes no register in a way of its own
-no_change : (f : Forgotten) (r : Register) (x : Change) → forgetting f ≢ Effect.Change r x
-no_change f r x same = grind arith
+-- a command that is not listed changes no register in a way of its own
+no_change : (goals : Option ModeSet) (f : Forgotten) (r : Register) (x : Change) → unlisted_effect goals f ≢ Effect.Change r x
+no_change goals f r x same = grind arith
 
 listed_change : (deck : Option Deck) (c : Command) (r : Register) (x : Change) → effect_of deck c ≡ Effect.Change r x → listed_effect c ≡ Effect.Change r x
-listed_change deck (Command.Unlisted head) r x same = absurd (no_change (forgotten_at deck head) r x same)
+listed_change deck (Command.Unlisted head) r x same = absurd (no_change (goals_at deck head) (forgotten_at deck head) r x same)
 listed_change deck c r x same = grind arith
 
 pub some_step : (profile : Profile) (c : Command) (s : State) → SetsInDay profile.rate c → IsState profile.rate s

@@ -7,7 +7,7 @@ pub use Rattle.block9.specs.declared.command.Command.{Command}
 pub use Rattle.block9.specs.declared.exchange.Exchange.{Exchange}
 pub use Rattle.deck9.specs.Contradict.{behind_first, CanPass, forgotten_if, HasBelieving, IsBelievingFrom, MayDo, MayGo}
 pub use Rattle.deck9.specs.Drift.{arrives, ComesToShow, Drift, DriftsTo, halts, handled, Move, Moves, PairReaches, passes}
-pub use Rattle.deck9.specs.Effect.{Becomes, Does, effect_of, forgetting, KeepsPanel, listed_effect, moved_entry, switched, with_forgotten}
+pub use Rattle.deck9.specs.Effect.{Becomes, Does, effect_of, forgetting, KeepsPanel, listed_effect, moved_entry, switched, unlisted_effect, with_forgotten}
 pub use Rattle.deck9.specs.Laws.{AreAnswered, ForgetsNoMore, ForgetsNothingBeside, IsRightReply, MayReply, SetsInDay, ShowJust}
 pub use Rattle.deck9.specs.Local.{is_of_goal_or_register, may_ignore}
 pub use Rattle.deck9.specs.Mode.{every_mode, index_of, is_mode, is_one_of, on_the_way}
@@ -51,7 +51,7 @@ pub use Rattle.tc25.proofs.DayLemmas.{bytes_read, given_reads, read_given}
 pub use Rattle.tc25.specs.Day.{bcd, bytes_of, day, frames_of, hours_of, label_of, minutes_of, next_frame, prev_frame, seconds_of}
 unfoldable pub use Rattle.tc25.specs.Day.{time_of}
 pub use Rattle.block9.specs.Block.{head_of}
-pub use Rattle.deck9.specs.Deck.{forgotten_at, forgotten_beside, way_of}
+pub use Rattle.deck9.specs.Deck.{forgotten_at, forgotten_beside, goals_at, way_of}
 pub use Rattle.deck9.specs.declared.deck.Deck.{Deck}
 pub use Rattle.deck9.specs.declared.deck.Forgotten.{Forgotten}
 pub use Rattle.deck9.specs.declared.deck.Forgotten.TheVariants.{Everything, Motion, Nothing, Registers, Tape}

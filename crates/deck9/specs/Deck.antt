@@ -1,5 +1,5 @@
--- What a deck forgets at commands that are not listed, and at each beside its effect, the replies that are named for its commands, and
--- the modes on the way to its goals: as its `Deck` says, and where it has none, as the rules say of every deck.
+-- What a deck forgets at commands that are not listed, and at each beside its effect, where others may lead, the replies that are named
+-- for its commands, and the modes on the way to its goals: as its `Deck` says, and where it has none, as the rules say of every deck.
 use Rattle.std.specs.Prelude.{ℕ, ◌==◌, ◌/◌, if◌then◌else◌, Option, Some, None, option_map, slice_index_or}
 use Rattle.std.specs.BTreeMap.{get}
 use Rattle.std.specs.Ordering.{nat_cmp}
@@ -35,6 +35,11 @@ forgotten_at deck head = named_or (named_at deck head) (forgotten_by_group (head
     named_or : Option Forgotten → Forgotten → Forgotten
     named_or None forgotten = forgotten
     named_or (Some named) forgotten = named
+
+-- the modes of which the goal may become one at a command that is not listed, where some are named
+abbrev pub goals_at : Option Deck → ℕ → Option ModeSet
+goals_at None head = None
+goals_at (Some d) head = get nat_cmp d.goals head
 
 -- the replies that are named for a deck's commands
 abbrev pub replies_of : Option Deck → Named

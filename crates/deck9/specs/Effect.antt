@@ -1,5 +1,5 @@
 -- What each command does to the deck.
-use Rattle.std.specs.Prelude.{ℕ, ◌≡◌, ◌<◌, ◌⊎◌, Bool, true, false, Option, ⊤}
+use Rattle.std.specs.Prelude.{ℕ, ◌≡◌, ◌<◌, ◌⊎◌, Bool, true, false, Option, None, Some, ⊤}
 use Rattle.tc25.specs.Day.{day, next_frame, prev_frame}
 use Rattle.block9.specs.declared.command.Command.{Command}
 use Rattle.block9.specs.declared.command.Command.TheVariants as command
@@ -19,7 +19,9 @@ use Rattle.deck9.specs.declared.effect.Effect.{Effect}
 use Rattle.deck9.specs.declared.effect.Effect.TheVariants as effect
 use Rattle.deck9.specs.declared.effect.Change.{Change}
 use Rattle.deck9.specs.declared.effect.Change.TheVariants.{SetSomewhere, SetAt, Next, Prev, Reset, Recall}
-use Rattle.deck9.specs.Deck.{forgotten_at}
+use Rattle.deck9.specs.declared.mode_set.ModeSet.{ModeSet}
+use Rattle.deck9.specs.Deck.{forgotten_at, goals_at}
+use Rattle.deck9.specs.ModeSet.{bit_of, has, modes}
 use Rattle.deck9.specs.State.{IsEntry, IsState, entry_of, with_entry}
 
 -- the effect that makes anything of what is forgotten
@@ -36,8 +38,8 @@ listed_effect command.Stop = effect.Go mode.Stop
 listed_effect command.Play = effect.Go mode.Play
 listed_effect command.SyncPlay = effect.Go mode.Play
 listed_effect command.Record = effect.Go mode.Rec
-listed_effect command.StandbyOff = effect.KeepOrStop
-listed_effect command.StandbyOn = effect.KeepOrStop
+listed_effect command.StandbyOff = effect.KeepOr (modes (bit_of mode.Stop))
+listed_effect command.StandbyOn = effect.KeepOr (modes (bit_of mode.Stop))
 listed_effect command.Eject = effect.Go mode.Eject
 listed_effect command.FastForward = effect.Go mode.FastForward
 listed_effect command.Rewind = effect.Go mode.Rewind
@@ -89,9 +91,14 @@ listed_effect command.AudioOutDataSense = effect.Nothing
 listed_effect (command.StatusSense asked) = effect.Nothing
 listed_effect (command.Unlisted head) = effect.Nothing
 
--- the effect of each command: one that is not listed makes the deck forget
+-- the effect of a command that is not listed, with the goals and with what is forgotten that are named for it
+abbrev pub unlisted_effect : Option ModeSet → Forgotten → Effect
+unlisted_effect (Some goals) forgotten = effect.KeepOr goals
+unlisted_effect None forgotten = forgetting forgotten
+
+-- the effect of each command: one that is not listed may lead to the goals that are named for it, or makes the deck forget
 abbrev pub effect_of : Option Deck → Command → Effect
-effect_of deck (command.Unlisted head) = forgetting (forgotten_at deck head)
+effect_of deck (command.Unlisted head) = unlisted_effect (goals_at deck head) (forgotten_at deck head)
 effect_of deck c = listed_effect c
 
 -- ---- what an effect may do
@@ -115,6 +122,10 @@ abbrev pub switched : Hands → Bool → State → State
 switched hands.None on s = s
 switched hands.Allowed on s = record s { panel = on }
 
+-- the goal is kept, or becomes one of these
+abbrev pub KeepsOrGoes : ModeSet → State → State → Type 0
+KeepsOrGoes goals s t = (t ≡ s) ⊎ ((has goals.0 t.goal ≡ true) × (t ≡ record s { goal = t.goal }))
+
 -- the panel stays, where nobody touches it
 abbrev pub KeepsPanel : Hands → State → State → Type 0
 KeepsPanel hands.None s t = t.panel ≡ s.panel
@@ -124,7 +135,7 @@ KeepsPanel hands.Allowed s t = ⊤
 abbrev pub Does : Profile → Effect → State → State → Type 0
 Does p effect.Nothing s t = t ≡ s
 Does p (effect.Go g) s t = t ≡ record s { goal = g }
-Does p effect.KeepOrStop s t = (t ≡ s) ⊎ (t ≡ record s { goal = mode.Stop })
+Does p (effect.KeepOr goals) s t = KeepsOrGoes goals s t
 Does p (effect.Change r c) s t = (e : Entry) × Becomes p.rate c (entry_of r s) e × (t ≡ with_entry r e s)
 Does p (effect.Panel on) s t = t ≡ switched p.hands on s
 Does p effect.ForgetMotion s t = t ≡ record s { goal = t.goal; shown = t.shown }

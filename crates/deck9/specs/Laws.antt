@@ -1,5 +1,5 @@
 -- What the laws say beside the deck's own definitions.
-use Rattle.std.specs.Prelude.{ℕ, ◌≡◌, ◌<◌, Bool, true, false, ⊤, List, [], ◌∷◌, Option, Some}
+use Rattle.std.specs.Prelude.{ℕ, ◌≡◌, ◌≢◌, ◌<◌, Bool, true, false, ⊤, List, [], ◌∷◌, Option, Some, None}
 use Rattle.std.specs.List.{All}
 use Rattle.tc25.specs.Day.{day}
 use Rattle.tc25.specs.declared.rate.Rate.{Rate}
@@ -11,13 +11,15 @@ use Rattle.block9.specs.Command.{fits, is_reply_time_valid}
 use Rattle.deck9.specs.declared.effect.Effect.TheVariants as effect
 use Rattle.deck9.specs.declared.effect.Change.TheVariants.{SetAt}
 use Rattle.deck9.specs.declared.deck.Deck.{Deck}
-use Rattle.deck9.specs.declared.deck.Forgotten.TheVariants.{Nothing}
+use Rattle.deck9.specs.declared.deck.Forgotten.{Forgotten}
+use Rattle.deck9.specs.declared.deck.Forgotten.TheVariants.{Everything, Motion, Nothing, Registers, Tape}
 use Rattle.deck9.specs.declared.mode.Mode.{Mode}
+use Rattle.deck9.specs.declared.mode_set.ModeSet.{ModeSet}
 use Rattle.deck9.specs.declared.profile.Profile.{Profile}
 use Rattle.deck9.specs.declared.state.Register.{Register}
 use Rattle.deck9.specs.declared.state.State.{State}
 use Rattle.deck9.specs.Contradict.{behind_first}
-use Rattle.deck9.specs.Deck.{forgotten_beside, way_of}
+use Rattle.deck9.specs.Deck.{forgotten_at, forgotten_beside, goals_at, named_beside, way_of}
 use Rattle.deck9.specs.Effect.{Does, effect_of, listed_effect}
 use Rattle.deck9.specs.ModeSet.{has}
 use Rattle.deck9.specs.State.{IsState}
@@ -70,3 +72,26 @@ ForgetsNothingBeside deck = (c : Command) (head : ℕ) → forgotten_beside deck
 -- the modes on the way to each goal of a deck of the first kind are on the way to it of one of the second
 abbrev pub PassesNoMore : Option Deck → Option Deck → Type 0
 PassesNoMore less more = (g m : Mode) → has (way_of less g).0 m ≡ true → has (way_of more g).0 m ≡ true
+
+-- ---- in a sheet's own words
+
+-- the first word forgets no more than the second
+abbrev pub IsNoMore : Forgotten → Forgotten → Type 0
+IsNoMore Nothing more = ⊤
+IsNoMore less Everything = ⊤
+IsNoMore Motion Motion = ⊤
+IsNoMore Registers Registers = ⊤
+IsNoMore less Tape = less ≢ Everything
+IsNoMore less more = ⊥
+
+-- a command that is not listed, with these goals or else this word, does no more than one with those
+abbrev pub DoesNoMore : Option ModeSet → Forgotten → Option ModeSet → Forgotten → Type 0
+DoesNoMore None less None more = IsNoMore less more
+DoesNoMore None less (Some goals) more = less ≡ Nothing
+DoesNoMore (Some goals) less None more = IsNoMore Motion more
+DoesNoMore (Some fewer) less (Some goals) more = (m : Mode) → has fewer.0 m ≡ true → has goals.0 m ≡ true
+
+-- at each command a deck of the first kind does no more than one of the second, and forgets no more beside its effect
+pub record SaysNoMore (less more : Option Deck) : Type 0 where
+  pub unlisted : (head : ℕ) → DoesNoMore (goals_at less head) (forgotten_at less head) (goals_at more head) (forgotten_at more head)
+  pub beside : (head : ℕ) → IsNoMore (named_beside less head) (named_beside more head)

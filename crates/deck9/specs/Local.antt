@@ -8,7 +8,7 @@ use Rattle.deck9.specs.Effect.{listed_effect}
 -- the goal changes, or a register does: what a listed transport or preset command does, if it does anything
 abbrev pub is_of_goal_or_register : Effect → Bool
 is_of_goal_or_register (effect.Go g) = true
-is_of_goal_or_register effect.KeepOrStop = true
+is_of_goal_or_register (effect.KeepOr goals) = true
 is_of_goal_or_register (effect.Change r c) = true
 is_of_goal_or_register effect.Nothing = false
 is_of_goal_or_register (effect.Panel on) = false

@@ -1,5 +1,5 @@
-//! What the rules leave to each deck: what it forgets at some commands, or beside their effects, which modes it may show on the way to its goal, and which
-//! replies it gives beside those of the tables; and what its commands are called.
+//! What the rules leave to each deck: what it forgets at some commands, or beside their effects, where others may lead, which modes it
+//! may show on the way to its goal, and which replies it gives beside those of the tables; and what its commands are called.
 
 ghost use Rattle.std.specs.Prelude.{◌≡◌};
 ghost use Rattle.deck9.specs.Deck.{forgotten_by_group};
@@ -34,6 +34,9 @@ pub struct Deck {
     /// What it forgets at a command that is not listed, by the first two bytes of the command's block as one number. At a
     /// command that is not named here it forgets by the command's group.
     pub forgets: BTreeMap<u32, Forgotten>,
+    /// The modes of which its commanded mode may become one at a command that is not listed, by the first two bytes of the command's
+    /// block as one number. It may be kept there too, and nothing is forgotten by `forgets`.
+    pub goals: BTreeMap<u32, ModeSet>,
     /// What it forgets at a command beside the command's own effect, by the first two bytes of the command's block as one number:
     /// nothing at one that is not named here, nor at one that asks for something of the state.
     pub also_forgets: BTreeMap<u32, Forgotten>,
@@ -50,7 +53,7 @@ pub struct Deck {
 impl Deck {
     ghost use Rattle.std.specs.Prelude.{◌≡◌, Some, option_map, slice_index_or};
     ghost use Rattle.block9.specs.Block.{head_of};
-    ghost use Rattle.deck9.specs.Deck.{forgotten_at, forgotten_beside, named_beside, replies_of, way_of};
+    ghost use Rattle.deck9.specs.Deck.{forgotten_at, forgotten_beside, goals_at, named_beside, replies_of, way_of};
     ghost use Rattle.deck9.specs.Effect.{effect_of};
     ghost use Rattle.deck9.specs.Mode.{index_of};
     ghost use Rattle.deck9.specs.ModeSet.{modes};
@@ -63,8 +66,21 @@ impl Deck {
         ensures { result ≡ effect_of (option_map (λ d. d.now) deck.entry) command.now }
     {
         match command {
-            Command::Unlisted { head } => Effect::forgetting(Deck::forgotten_at(deck, *head)),
+            Command::Unlisted { head } => match Deck::goals_at(deck, *head) {
+                Some(goals) => Effect::KeepOr(goals),
+                None => Effect::forgetting(Deck::forgotten_at(deck, *head)),
+            },
             _ => Effect::listed(command),
+        }
+    }
+
+    /// The modes of which its goal may become one at the command with this head, which is not listed, if some are named.
+    fn goals_at(deck: Option<&Deck>, head: u32) -> Option<ModeSet>
+        ensures { result ≡ goals_at (option_map (λ d. d.now) deck.entry) head }
+    {
+        match deck {
+            Some(deck) => deck.goals.get(&head).copied(),
+            None => None,
         }
     }
 

@@ -1,6 +1,7 @@
 //! What each command does to the deck.
 use crate::deck::Forgotten;
 use crate::mode::Mode;
+use crate::mode_set::ModeSet;
 use crate::state::Register;
 use block9::Command;
 use tc25::TimeCode;
@@ -29,8 +30,8 @@ pub enum Effect {
     Nothing,
     /// This becomes the commanded mode; the shown mode follows by drift.
     Go(Mode),
-    /// The commanded mode is kept, or becomes STOP.
-    KeepOrStop,
+    /// The commanded mode is kept, or becomes one of these; the shown mode follows by drift.
+    KeepOr(ModeSet),
     /// A register changes.
     Change(Register, Change),
     /// The panel is switched on or off, where hands are allowed.
@@ -71,7 +72,7 @@ impl Effect {
             Command::Stop => Effect::Go(Mode::Stop),
             Command::Play | Command::SyncPlay => Effect::Go(Mode::Play),
             Command::Record => Effect::Go(Mode::Rec),
-            Command::StandbyOff | Command::StandbyOn => Effect::KeepOrStop,
+            Command::StandbyOff | Command::StandbyOn => Effect::KeepOr(ModeSet::just(Mode::Stop)),
             Command::Eject => Effect::Go(Mode::Eject),
             Command::FastForward => Effect::Go(Mode::FastForward),
             Command::JogForward | Command::JogReverse => Effect::Go(Mode::Jog),

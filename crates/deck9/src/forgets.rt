@@ -76,7 +76,7 @@ fn some_outcome(profile: &Profile, effect: &Effect, state: &State) -> State
     ensures { result ≡ some_outcome profile.now effect.now state.now }
 {
     match effect {
-        Effect::Nothing | Effect::KeepOrStop | Effect::ForgetMotion => *state,
+        Effect::Nothing | Effect::KeepOr(_) | Effect::ForgetMotion => *state,
         Effect::Go(goal) => state.with_goal(*goal),
         Effect::Change(register, change) => {
             let entry = some_change(profile.rate, change, state.entry(*register));

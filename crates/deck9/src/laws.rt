@@ -9,15 +9,19 @@ ghost use Rattle.block9.specs.declared.exchange.Exchange.{Exchange};
 ghost use Rattle.deck9.specs.Contradict.{CanPass, HasBelieving};
 ghost use Rattle.deck9.specs.declared.deck.Deck.{Deck as ADeck};
 ghost use Rattle.deck9.specs.Drift.{Drift, DriftsTo};
-ghost use Rattle.deck9.specs.Laws.{AreAnswered, ForgetsNoMore, ForgetsNothingBeside, IsRightReply, PassesNoMore, SetsInDay, ShowJust};
+ghost use Rattle.deck9.specs.Laws.{AreAnswered, ForgetsNoMore, ForgetsNothingBeside, IsNoMore, IsRightReply, PassesNoMore, SaysNoMore, SetsInDay, ShowJust};
 ghost use Rattle.deck9.specs.Local.{may_ignore};
 ghost use Rattle.deck9.specs.Mode.{index_of, is_mode};
 ghost use Rattle.deck9.specs.Run.{Ends, HasRun};
 ghost use Rattle.deck9.specs.State.{IsFirst, IsState};
 ghost use Rattle.deck9.specs.Status.{may_show};
-ghost use Rattle.deck9.specs.Step.{AreReached, DeckStep, Goes};
+ghost use Rattle.deck9.specs.Effect.{Does};
+ghost use Rattle.deck9.specs.Step.{AreReached, DeckStep, Forgets, Goes};
 
+use crate::deck::Forgotten;
+use crate::effect::Effect;
 use crate::mode::Mode;
+use crate::mode_set::ModeSet;
 use crate::profile::Profile;
 use crate::state::{Hands, State};
 use tc25::Rate;
@@ -61,6 +65,19 @@ pub fn hands_explain_no_less()
 pub fn a_sheet_that_forgets_less()
     ensures { (p : Profile) (less more : Option ADeck) (es : List Exchange) → ForgetsNoMore p less more → PassesNoMore less more
         → HasRun (record p { deck = less }) es → HasRun (record p { deck = more }) es }
+{}
+
+/// In a sheet's own words: nothing is at most motion, that at most tape, that at most everything, and registers are at most tape; fewer
+/// goals are at most more, nothing is at most some goals, and these at most motion. A deck whose sheet says no more at each command,
+/// and beside each, forgets no more.
+pub fn a_sheet_that_says_less()
+    ensures { (p : Profile) (less more : Option ADeck) → SaysNoMore less more → ForgetsNoMore p less more }
+{}
+
+/// A command that may lead to some goals, and forgets this beside that, does no more than one that forgets the motion and this.
+pub fn goals_lead_to_no_more()
+    ensures { (p : Profile) (goals : ModeSet) (beside all : Forgotten) (s u t : State) → IsState p.rate s → IsNoMore Forgotten.Motion all → IsNoMore beside all
+        → Does p (Effect.KeepOr goals) s u → Forgets p beside u t → Forgets p all s t }
 {}
 
 /// Without an exchange, the states in which runs end are the first states. One exchange more leads from the states in which

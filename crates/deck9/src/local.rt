@@ -11,7 +11,7 @@ pub fn may_ignore(command: &Command) -> bool
     ensures { result ≡ may_ignore command.now }
 {
     match Effect::listed(command) {
-        Effect::Go(_) | Effect::KeepOrStop | Effect::Change(_, _) => true,
+        Effect::Go(_) | Effect::KeepOr(_) | Effect::Change(_, _) => true,
         Effect::Nothing
         | Effect::Panel(_)
         | Effect::ForgetMotion

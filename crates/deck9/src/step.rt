@@ -1,14 +1,14 @@
 //! What a step, and what is forgotten after it, do to one state.
 ghost use Rattle.std.specs.Prelude.{◌≡◌, ◌↔◌, IsTrue};
 ghost use Rattle.deck9.specs.Working.{Steps};
-ghost use Rattle.deck9.specs.Effect.{Becomes, Does, KeepsPanel};
+ghost use Rattle.deck9.specs.Effect.{Becomes, Does, KeepsOrGoes, KeepsPanel};
 ghost use Rattle.deck9.specs.Step.{DeckStep, Forgets, forgotten_with};
 
 use crate::deck::Forgotten;
 use crate::effect::{Change, Effect};
 use crate::forgets::between;
 use crate::local::may_ignore;
-use crate::mode::Mode;
+use crate::mode_set::ModeSet;
 use crate::profile::Profile;
 use crate::state::{Entry, Hands, Register, State};
 use block9::Exchange;
@@ -74,7 +74,7 @@ fn does(profile: &Profile, effect: &Effect, before: &State, after: &State) -> bo
     match effect {
         Effect::Nothing => after.is(before),
         Effect::Go(goal) => after.is(&before.with_goal(*goal)),
-        Effect::KeepOrStop => after.is(before) || after.is(&before.with_goal(Mode::Stop)),
+        Effect::KeepOr(goals) => keeps_or_goes(*goals, before, after),
         Effect::Change(register, change) => changes(profile, *register, change, before, after),
         Effect::Panel(on) => match profile.hands {
             Hands::None => after.is(before),
@@ -87,6 +87,14 @@ fn does(profile: &Profile, effect: &Effect, before: &State, after: &State) -> bo
         Effect::ForgetRegisters => after.is_of(rate) && before.keeps_all_but_registers(after),
         Effect::ForgetAll => after.is_of(rate) && keeps_panel(profile.hands, before, after),
     }
+}
+
+/// Whether a state is the same, or the same but for the goal, which is one of these.
+fn keeps_or_goes(goals: ModeSet, before: &State, after: &State) -> bool
+    ensures { IsTrue result ↔ KeepsOrGoes goals before.now after.now }
+{
+    let goes = goals.has(after.goal);
+    after.is(before) || (goes && after.is(&before.with_goal(after.goal)))
 }
 
 /// Whether the panel stays, where nobody touches it.

@@ -11,13 +11,11 @@ ghost use Rattle.report9.specs.declared.verdict.Extent.TheVariants as AnExtent;
 use crate::event::Event;
 use crate::judging::Judging;
 use crate::kept::Kept;
-use deck9::{Profile, Register};
+use deck9::Profile;
 use report9::{Beginning, Extent, JudgeError, RunVerdict, Scope, Verdict};
-use run9::{Pace, states_of_run};
-use sets25::SpanSet;
+use run9::{MostSpans, states_of_run};
 use std::alloc::Global;
 use std::io::Read;
-use track9::Tracker;
 
 /// Judges the capture that the reader gives, as [`judge_for`](crate::judge_for) does, and gives a yes with a run of the
 /// deck: how many records were passed over, the exchanges, and a state of the deck after each of them, such that some first
@@ -28,7 +26,7 @@ use track9::Tracker;
 /// It writes nothing, and keeps all exchanges, their states, and what was possible before some of the exchanges: before so
 /// few of them that this takes about as much memory as the exchanges, which is measured and not proved. To find the run
 /// each exchange is observed again, mostly twice, and where much is possible as often as the number of exchanges can be
-/// halved; with hands once or twice more, and after a move of a hand seven times more.
+/// halved; with hands three times more, and behind a move of a hand seven times more.
 ///
 /// Where the reader tells its bytes, the verdict, its counts and the refusals of the text are those that
 /// [`judge_for`](crate::judge_for) gives, and the exchanges are those that the records are cut into. Errors come as there, but
@@ -70,15 +68,14 @@ fn find_run<R: Read + Drop>(
 {
     let profile = judging.profile;
     let mut kept = Kept::new(alloc);
-    let mut spans = 0;
+    let mut spans = MostSpans::none();
     keep_all(judging, &mut kept, &mut spans)?;
     match judging.verdict() {
         Verdict::No { at, reason } => Ok(RunVerdict::No { at, reason }),
         Verdict::Yes { records, tail, .. } => {
             let exchanges = kept.exchanges;
-            let pace = Pace::of(exchanges.len(), spans);
             let tracker = &judging.feed.follower.tracker;
-            let states = states_of_run(alloc, profile, &exchanges, tracker, pace)?;
+            let states = states_of_run(alloc, profile, &exchanges, tracker, spans)?;
             Ok(RunVerdict::Yes {
                 past: judging.totals().passed_over,
                 records,
@@ -90,12 +87,11 @@ fn find_run<R: Read + Drop>(
     }
 }
 
-/// Keeps the exchanges up to the end, which comes behind the first break or behind the rows. `spans` gets about how many spans of
-/// times the tracker had when it had most: it bears on speed and memory alone.
+/// Keeps the exchanges up to the end, which comes behind the first break or behind the rows, and notes the spans of the tracker.
 fn keep_all<R: Read + Drop>(
     judging: &mut Judging<R>,
     kept: &mut Kept,
-    spans: &mut usize,
+    spans: &mut MostSpans,
 ) -> Result<(), JudgeError>
     requires first { judging.old.scope.extent ≡ AnExtent.FirstBreak }
     requires stands { Stands judging.old.scope judging.old.profile.now judging.old.feed.rows.rows nothing_told judging.old }
@@ -107,31 +103,10 @@ fn keep_all<R: Read + Drop>(
         match judging.next()? {
             Event::Exchange => {
                 kept.keep(judging)?;
-                *spans = most_spans(*spans, kept.exchanges.len(), &judging.feed.follower.tracker);
+                spans.note(kept.exchanges.len(), &judging.feed.follower.tracker);
             }
             Event::End => return Ok(()),
             _ => {}
         }
     }
-}
-
-/// The most spans of times that a tracker had so far: they are counted after each 128th exchange. An exchange adds one at most, so
-/// they are never many more.
-fn most_spans(before: usize, exchanges: usize, tracker: &Tracker<SpanSet>) -> usize {
-    if exchanges % 128 == 0 {
-        before.max(spans_of(tracker))
-    } else {
-        before
-    }
-}
-
-/// How many spans of times a tracker has of all registers, each counted where it has most.
-fn spans_of(tracker: &Tracker<SpanSet>) -> usize {
-    let ins = tracker.spans(Register::RegIn);
-    let outs = tracker.spans(Register::RegOut);
-    let ains = tracker.spans(Register::RegAudioIn);
-    let aouts = tracker.spans(Register::RegAudioOut);
-    ins.saturating_add(outs)
-        .saturating_add(ains)
-        .saturating_add(aouts)
 }

@@ -8,7 +8,7 @@ use crate::source::Source;
 use program9::{End, Message, run_program};
 use std::process::ExitCode;
 use std::{env, fs, io};
-use words9::WordsFault;
+use words9::{WordsFault, rate_hint};
 
 fn main(rt: HostRuntime) -> ExitCode {
     let words = arguments(&rt);
@@ -59,4 +59,16 @@ fn tell(rt: &HostRuntime, end: &End) {
             message => eprintln!(rt; "{message}"),
         },
     };
+    if let Some(hint) = hint_of(rt, end) {
+        let _ = eprintln!(rt; "{hint}");
+    }
+}
+
+/// What is said below a usage error where the words name a frame rate that the program has another name for.
+fn hint_of(rt: &HostRuntime, end: &End) -> Option<&'static str> {
+    let End::Usage(Some(text)) = end else {
+        return None;
+    };
+    let words = arguments(rt).ok()?;
+    rate_hint(words.as_slice(), text)
 }

@@ -7,10 +7,11 @@ use crate::happened::Happened;
 use crate::look::Look;
 use crate::session::Session;
 use crate::span::Window;
+use crate::touches::Touches;
 use block9::Reason;
 use deck9::Profile;
 use picture9::Done;
-use report9::{Beginning, JudgeError, Totals, WhyNo};
+use report9::{Beginning, JudgeError, Stretch, Totals, WhyNo};
 use std::alloc::{AllocError, Global};
 use view9::{Ending, ExplainedView, SeenBreak, SeenExchange, SeenLate, Strength, View};
 
@@ -23,6 +24,7 @@ pub(crate) struct Following<'a> {
     pub(crate) happened: Happened<'a>,
     pub(crate) delays: DelayTable<'a>,
     pub(crate) look: Look<'a>,
+    pub(crate) touches: Touches<'a>,
     pub(crate) strength: Strength<'a>,
     pub(crate) totals: Totals,
     /// Why the break came that is told next.
@@ -43,6 +45,7 @@ impl<'a> Following<'a> {
     pub(crate) fn new(
         alloc: Global,
         window: Window,
+        stretch: Stretch,
         profile: &'a Profile,
         beginning: Beginning,
     ) -> Result<Following<'a>, AllocError> {
@@ -53,6 +56,7 @@ impl<'a> Following<'a> {
             happened: Happened::new(alloc, profile),
             delays: DelayTable::new(alloc, profile),
             look: Look::new(alloc, profile),
+            touches: Touches::new(alloc, window, stretch, profile),
             strength: Strength::new(alloc, profile),
             totals: NOTHING,
             why: None,
@@ -62,6 +66,7 @@ impl<'a> Following<'a> {
     /// Takes the end of the capture, whose last record came at this time, in microseconds.
     pub(crate) fn end_capture(&mut self, last_us: u64) -> Done {
         self.session.end_part(last_us)?;
+        self.touches.end_part()?;
         self.look.end_part()
     }
 
@@ -102,6 +107,7 @@ impl View for Following<'_> {
         self.breaks.exchange();
         self.happened.exchange(seen)?;
         self.look.exchange(seen)?;
+        self.touches.exchange(seen)?;
         if seen.is_shown {
             self.delays.exchange(seen)?;
             self.strength.count(seen)?;
@@ -130,6 +136,7 @@ impl View for Following<'_> {
     fn broken(&mut self, broken: &SeenBreak) -> Result<(), JudgeError> {
         self.session.end_part(broken.time_us)?;
         self.look.end_part()?;
+        self.touches.end_part()?;
         if broken.is_shown {
             return Ok(self.take_break(broken)?);
         }

@@ -78,8 +78,13 @@ pub(crate) fn put_head(
     put_judged_with(html, page, profile, options)?;
     html.put_mark(
         "<nav aria-label=\"Sections\">\n\
-        <a href=\"#session\">Session</a> <a href=\"#breaks\">Breaks</a> <a href=\"#happened\">What happened</a>\n\
-        <a href=\"#delays\">Delays</a> <a href=\"#look\">What to look at</a> <a href=\"#known\">How much was known</a>\n\
+        <a href=\"#session\">Session</a> <a href=\"#breaks\">Breaks</a> <a href=\"#happened\">What happened</a>\n",
+    )?;
+    if profile.hands == Hands::Allowed {
+        html.put_mark("<a href=\"#touches\">Touches</a>\n")?;
+    }
+    html.put_mark(
+        "<a href=\"#delays\">Delays</a> <a href=\"#look\">What to look at</a> <a href=\"#known\">How much was known</a>\n\
         </nav>\n</header>\n",
     )
 }

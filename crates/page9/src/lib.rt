@@ -36,6 +36,7 @@ mod style;
 mod table;
 #[cfg(test)]
 mod tests;
+mod touches;
 mod traffic;
 
 pub use page::{PageOf, Readings, write_page};

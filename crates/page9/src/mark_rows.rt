@@ -40,7 +40,9 @@ fn put_row(html: &mut Markup, span: Span, marks: &Marks, row: &ReasonRow) -> Don
     put_reason(html, row.reason)?;
     html.put_mark("</div>\n<div class=\"chart\">")?;
     if row.count > MOST_LINKS {
-        put_strokes(html, span, row)?;
+        let mut words = Markup::new(html.alloc());
+        put_row_words(&mut words, row)?;
+        put_strokes(html, span, ("breaks", &words), row.times_us())?;
     } else {
         if row.reason == Reason::NoRun {
             put_contradictions(html, span, marks)?;
@@ -140,18 +142,28 @@ pub(crate) fn put_mark_html(
     html.put_mark("\"></a>\n")
 }
 
-/// Puts a stroke without a link for each thousandth in which there is a break.
-fn put_strokes(html: &mut Markup, span: Span, row: &ReasonRow) -> Done {
+/// Puts what a row of breaks is called that has no links.
+fn put_row_words(words: &mut Markup, row: &ReasonRow) -> Done {
+    words.put_mark(row.reason.name())?;
+    words.put_mark(" ")?;
+    words.put_mark(row.reason.text())?;
+    words.put_mark(", ")?;
+    put_counted(words, u64::from(row.count), "break", "breaks")
+}
+
+/// Puts a stroke that looks so, and without a link, for each thousandth that one of these times is in, under a title.
+pub(crate) fn put_strokes(
+    html: &mut Markup,
+    span: Span,
+    (look, title): (&'static str, &Markup),
+    times_us: &[u64],
+) -> Done {
     begin_chart(html, 18)?;
-    html.put_mark(row.reason.name())?;
-    html.put_mark(" ")?;
-    html.put_mark(row.reason.text())?;
-    html.put_mark(", ")?;
-    put_counted(html, u64::from(row.count), "break", "breaks")?;
+    html.put_piece(title)?;
     html.put_mark("</title>")?;
-    begin_path(html, "breaks")?;
+    begin_path(html, look)?;
     let mut last = CELLS;
-    for since_us in row.times_us() {
+    for since_us in times_us {
         let cell = cell_of(span, *since_us);
         if cell != last {
             html.put_mark("M")?;

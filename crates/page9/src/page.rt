@@ -80,7 +80,7 @@ pub fn write_page<R: Read + Drop, W: Write>(
         extent: Extent::WholeCapture,
         beginning: page.beginning,
     };
-    let mut following = Following::new(alloc, window, profile, page.beginning)?;
+    let mut following = Following::new(alloc, window, page.stretch, profile, page.beginning)?;
     let ending = show_explained(alloc, judged, &mut following, scope, page.stretch, profile)?;
     let found = read_again(alloc, drawn, profile, page.beginning, &mut following.breaks)?;
     following.end_capture(found.last_us.unwrap_or(0))?;
@@ -168,9 +168,13 @@ fn put_page(
     };
     put_title(html, page, following.breaks.count())?;
     put_head(html, page, profile, &told, &found.signs, again.options)?;
-    following.session.put(html, shown, reasons.as_slice())?;
+    let touches = &following.touches;
+    following
+        .session
+        .put(html, shown, reasons.as_slice(), touches)?;
     following.breaks.put(html, &again, &doubts)?;
     following.happened.put(html)?;
+    following.touches.put(html)?;
     following.delays.put(html)?;
     following.look.put(html)?;
     put_known(html, &following.strength)?;

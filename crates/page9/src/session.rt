@@ -13,6 +13,7 @@ use crate::marks::Marks;
 use crate::mode_rows::put_modes;
 use crate::modes::ModeOverTime;
 use crate::span::{Span, Window};
+use crate::touches::Touches;
 use deck9::{Hands, Known, Mode, Profile};
 use picture9::{Done, Markup};
 use std::alloc::{AllocError, Global};
@@ -91,23 +92,31 @@ impl Session {
         Ok(())
     }
 
-    /// Puts the section, with a row for each of these reasons of breaks. There is no time where the capture has no record.
+    /// Puts the section, with a row for each of these reasons of breaks, and one for touches of the panel. There is no time where the
+    /// capture has no record.
     pub(crate) fn put(
         &self,
         html: &mut Markup,
         span: Option<Span>,
         reasons: &[ReasonCount],
+        touches: &Touches<'_>,
     ) -> Done {
         html.put_mark("<section id=\"session\"><h2>The whole session</h2>\n")?;
         match span {
-            Some(span) => self.put_figure(html, span, reasons)?,
+            Some(span) => self.put_figure(html, span, reasons, touches)?,
             None => html.put_mark("<p>The capture has no records.</p>")?,
         }
         html.put_mark("</section>\n")
     }
 
     /// Puts the picture of a session that lasts so long.
-    fn put_figure(&self, html: &mut Markup, span: Span, reasons: &[ReasonCount]) -> Done {
+    fn put_figure(
+        &self,
+        html: &mut Markup,
+        span: Span,
+        reasons: &[ReasonCount],
+        touches: &Touches<'_>,
+    ) -> Done {
         let axis = Axis::of(span);
         html.put_mark("<p class=\"note\">Time runs to the right, ")?;
         html.put_mark(axis.clock.name())?;
@@ -124,6 +133,7 @@ impl Session {
             put_note(html, "Traffic, Reply delay: no exchange is complete")?;
         } else {
             self.put_lanes(html, span)?;
+            touches.put_lane(html, span)?;
         }
         put_axis(html, span, axis)?;
         html.put_mark("</div>\n")?;

@@ -65,7 +65,7 @@ const LANES: &str = "\
     .modes span{display:block;line-height:12px;font-size:11px;color:var(--ink)}\n\
     .narrow{display:none;font-size:11px;color:var(--ink)}\n\
     .lanes .mark-lane,.lanes+.lanes .mark-lane{margin-top:0}\n\
-    .mark-lane .chart{height:19px;border-bottom:1px solid var(--grid)}\n\
+    .mark-lane .chart,.touch-lane .chart{height:19px;border-bottom:1px solid var(--grid)}\n\
     .mark-lane .label b{color:var(--bad);font:600 12.5px/18px ui-monospace,\"DejaVu Sans Mono\",Menlo,Consolas,monospace}\n\
     .mark-lane .label .name{color:inherit;font:inherit;font-weight:600}\n\
     .mark-lane .scale{font-size:14px;color:var(--ink)}\n\
@@ -96,6 +96,7 @@ const CHARTS: &str = "\
     path.blank{stroke:var(--grid)}\n\
     path.breaks{stroke:var(--bad);stroke-width:3}\n\
     path.contradiction{stroke:var(--bad)}\n\
+    path.touches{stroke:var(--state);stroke-width:3}\n\
     path.middle{stroke:var(--mid);stroke-width:4}\n\
     path.tick{stroke:var(--mid);stroke-width:1.5}\n\
     path.lates{stroke:var(--bad);stroke-width:1.5}\n\

@@ -12,6 +12,7 @@ use crate::shapes::{
 };
 use crate::spot::{DRAWN_US, Spot};
 use crate::text_rows::{APART, TextRows, WIRES_LEFT};
+use crate::ties::draw_ties;
 use block9::BYTE_TIME_US;
 use capture9::Wire;
 use report9::put_text;
@@ -25,7 +26,7 @@ pub(crate) const TALL: u64 = 364;
 const AXIS: u64 = 312;
 
 /// Where the boxes of a wire begin, from above.
-fn top_of(wire: Wire) -> u64
+pub(crate) fn top_of(wire: Wire) -> u64
     ensures { (118 ≤ result) × (result ≤ 226) }
 {
     match wire {
@@ -42,6 +43,7 @@ pub(crate) fn draw_around(svg: &mut Markup, layout: &Layout) -> Done {
     let has_cuts = draw_cuts(svg, layout)?;
     draw_measure(svg, layout)?;
     draw_bytes(svg, layout)?;
+    let has_ties = draw_ties(svg, layout)?;
     draw_blocks(svg, layout)?;
     draw_times(svg, layout)?;
     begin_text(svg, (MARGIN, 352), Look::Note)?;
@@ -50,7 +52,16 @@ pub(crate) fn draw_around(svg: &mut Markup, layout: &Layout) -> Done {
     if has_cuts {
         svg.put_mark("; a silence that is cut has its length beside the cut")?;
     }
-    end_text(svg)
+    end_text(svg)?;
+    if has_ties {
+        draw_text(
+            svg,
+            (MARGIN, 341),
+            Look::Note,
+            b"bytes that a line joins have one stamp",
+        )?;
+    }
+    Ok(())
 }
 
 /// Draws a wire, with its letter and whose it is.

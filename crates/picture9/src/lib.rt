@@ -23,6 +23,7 @@ mod sentence;
 mod shapes;
 mod spot;
 mod text_rows;
+mod ties;
 
 pub use break_pictures::{BreakPictures, MOST_PICTURES};
 pub use contradiction::put_known_before;

@@ -8,3 +8,4 @@ abbrev pub still_to_come : {R : Type 0} → (R → Option (List ℕ)) → Again 
 still_to_come coming (again.Opened reader) = coming reader
 still_to_come coming (again.Kept text) = Some text.now
 still_to_come coming (again.Followed both) = None
+still_to_come coming (again.Keeping kept) = coming kept.now.reader

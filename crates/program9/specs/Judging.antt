@@ -18,6 +18,7 @@ use Rattle.report9.specs.declared.verdict.Beginning.{Beginning}
 use Rattle.report9.specs.declared.verdict.Extent.TheVariants.{FirstBreak, WholeCapture}
 use Rattle.report9.specs.declared.verdict.Verdict.{Verdict}
 use Rattle.report9.specs.declared.verdict.View.{View}
+use Rattle.report9.specs.declared.verdict.View.TheVariants as view
 use Rattle.report9.specs.Writing.{AppendsPart}
 use Rattle.report9.specs.RunText.{text_of_run}
 use Rattle.judge9.specs.Judging.{Answers}
@@ -25,15 +26,16 @@ use Rattle.judge9.specs.Report.{Told, by_totals, by_verdict}
 use Rattle.judge9.specs.RunVerdict.{IsJudgedRun, verdict_of}
 use Rattle.words9.specs.declared.task.Export.{Export}
 use Rattle.words9.specs.declared.task.Report.{Report}
-use Rattle.words9.specs.declared.task.Report.TheVariants.{Clock, Convert, Info, JsonRun, Made, Page, Parts, Picture, Run, Split, ToBreak, Try}
+use Rattle.words9.specs.declared.task.Report.TheVariants.{Clock, Convert, Info, JsonRun, Made, Page, Parts, Picture, Run, Split, ToBreak, Touches, Try}
 use Rattle.view9.specs.declared.clock.ClockFault.{ClockFault}
 use Rattle.view9.specs.declared.seen.Ending.{Ending}
+use Rattle.program9.specs.declared.ending.Message.{Message}
 use Rattle.program9.specs.declared.ending.Message.TheVariants as message
 use Rattle.program9.specs.declared.ending.Outcome.{Outcome}
 use Rattle.program9.specs.declared.judging.Job.{Job}
 use Rattle.program9.specs.Outcome.{outcome_converted, outcome_drawn, outcome_in_parts, outcome_kept, outcome_made, outcome_of, outcome_of_split, outcome_rewritten, outcome_told}
 use Rattle.program9.specs.Output.{IsFirstPart}
-use Rattle.program9.specs.Trying.{TellsAnswers}
+use Rattle.program9.specs.Trying.{IsHint, TellsAnswers}
 
 -- of a judging that answered `judged`, after which the writer was to hold `all`: the result is that answer, and
 -- the writer holds all of it; or the result is a write fault, and the writer holds a first part
@@ -80,6 +82,13 @@ pub record EndsAs {A : Type 0} (Kind : Result A JudgeError → Option (List ℕ)
   pub hands_on : HandsOn judged all result now
   pub is_end : end ≡ outcome result
 
+-- a judging whose end is `plain` was told by this view, and the program ends so: as `plain` says. But below a `why` that is a no and says
+-- nothing, lines may be said of what to ask next. What they say is tested
+abbrev pub IsHinted : View → Outcome → Outcome → Type 0
+IsHinted view.Why plain end =
+    (end ≡ plain) ⊎ ((plain ≡ record { status = 1; message = message.Nothing }) × (said : Message) × IsHint said × (end ≡ record { status = 1; message = said }))
+IsHinted _ plain end = end ≡ plain
+
 -- a view was made of a judging, and this is its end. What stands in a view is tested, and nothing is said of it here
 abbrev pub EndsMade : Outcome → Type 0
 EndsMade end = (result : Result Ending JudgeError) × (end ≡ outcome_made result)
@@ -123,13 +132,15 @@ EndsSplit end = ((told : Result Unit JudgeError) × (end ≡ outcome_told told))
 -- a capture was judged and told by this report, and this is the end
 abbrev pub EndsJudged : Report → Job → Option (List ℕ) → Option (List ℕ) → Outcome → Option (List ℕ) → Type 0
 EndsJudged Run job capture old end now = EndsAs (IsJudgedWithRun job capture old) outcome_of end now
-EndsJudged (ToBreak view) job capture old end now = EndsAs (IsJudged view job capture old) outcome_of end now
-EndsJudged (Parts view) job capture old end now = EndsAs (IsJudgedInParts view job capture old) outcome_in_parts end now
+EndsJudged (ToBreak view) job capture old end now = (plain : Outcome) × EndsAs (IsJudged view job capture old) outcome_of plain now × IsHinted view plain end
+EndsJudged (Parts view) job capture old end now =
+    (plain : Outcome) × EndsAs (IsJudgedInParts view job capture old) outcome_in_parts plain now × IsHinted view plain end
 EndsJudged (Made made extent) job capture old end now = EndsMade end
 EndsJudged JsonRun job capture old end now = EndsJsonRun end
 EndsJudged (Clock form) job capture old end now = EndsRewritten end
 EndsJudged Info job capture old end now = EndsInfo end
 EndsJudged (Try extent) job capture old end now = EndsAs (TellsAnswers (record { extent = extent; beginning = job.asked.beginning }) job.profile capture old) outcome_kept end now
+EndsJudged Touches job capture old end now = EndsMade end
 EndsJudged (Picture extent) job capture old end now = EndsDrawn end
 EndsJudged Page job capture old end now = EndsPaged end
 EndsJudged (Convert export) job capture old end now = EndsConverted export end

@@ -16,15 +16,15 @@ abbrev pub found_text : Option ShownField → List ℕ
 found_text (Some field) = codes "; the row has " ++ shown_text field
 found_text None = []
 
--- two lines, or what to look at besides the answers to several terms, without a line feed at the end; nothing where there is a verdict, or the
--- version was told
+-- two lines, or what to look at besides the answers to several terms, or what to ask next, without a line feed at the end; nothing where
+-- there is a verdict, or the version was told, and nothing more to say
 abbrev pub text_of : Message → List ℕ
 text_of message.Nothing = []
 text_of (message.Unreadable e) = codes "unreadable at row " ++ decimal e.row ++ codes ": " ++ word_of e.kind ++ codes "\n" ++ expected_of e.kind e.row ++ found_text e.field
 text_of (message.NoHeader n) = codes "unreadable at row 0: header\n" ++ file_name_of n.file ++ codes ": expected the header time_us,wire,byte; the first line is " ++ header_found n.found
 text_of (message.Refused r) = codes "ninecheck " ++ refuser_word r.by ++ codes ": line " ++ decimal r.refusal.line ++ codes ": " ++ string_bytes r.refusal.text
 text_of (message.Notice n) = codes "ninecheck convert log: " ++ notice_text n
-text_of (message.Hints lines) = string_bytes lines
+text_of (message.Lines lines) = string_bytes lines
 text_of (message.NothingToDraw nothing.Yes) = codes "nothing to draw: the verdict is a yes"
 text_of (message.NothingToDraw nothing.NoPartBreaks) = codes "nothing to draw: no part breaks"
 text_of (message.NothingToDraw (nothing.NoBreakAt at)) = codes "nothing to draw: there is no break at record " ++ decimal at

@@ -173,7 +173,7 @@ status_of answers = if list_any (λ a. is_yes a.ended) answers then 0 else 1
 -- what may be said besides: which terms make it a yes, and what the capture shows of itself. What that is is tested
 abbrev pub IsHint : Message → Type 0
 IsHint message.Nothing = ⊤
-IsHint (message.Hints lines) = ⊤
+IsHint (message.Lines lines) = ⊤
 IsHint _ = ⊥
 
 -- so the lines of these answers were written, where not all were refused

@@ -5,8 +5,11 @@ ghost use Rattle.std.specs.Prelude.{◌≡◌, IfOk, IfSome, Some};
 ghost use Rattle.std.specs.Io.{ReadsAtMost};
 ghost use Rattle.program9.specs.Again.{still_to_come};
 
-use std::alloc::Global;
+use std::alloc::{AllocError, Global};
 use std::io::{self, Read};
+
+/// As much is kept of a capture that is read once, which is 128 MiB: about nine million records.
+const MOST_KEPT: usize = 0x800_0000;
 
 /// A capture, as it is read.
 #[derive(Drop)]
@@ -17,6 +20,8 @@ pub(crate) enum Again<'t, R: Read + Drop> {
     Kept(&'t [u8]),
     /// As it comes, and then a text, which begins on a line of its own.
     Followed(Followed<'t, R>),
+    /// As it comes, and what was read is kept.
+    Keeping(&'t mut Keeping<R>),
 }
 
 /// What is read as it comes, and then a text.
@@ -36,6 +41,7 @@ impl<R: Read + Drop> Read for Again<'_, R> {
             Again::Opened(reader) => reader.read(place),
             Again::Kept(text) => text.read(place),
             Again::Followed(both) => both.read(place),
+            Again::Keeping(both) => both.read(place),
         }
     }
 }
@@ -67,29 +73,84 @@ impl<'t, R: Read + Drop> Followed<'t, R> {
     }
 }
 
-/// A capture that was read to its end.
+/// A reader, and what it gave so far.
 #[derive(Drop)]
-pub(crate) struct Kept<R: Read + Drop> {
-    /// Its reader, which has no more to give.
+pub(crate) struct Keeping<R: Read + Drop> {
     reader: R,
-    pub(crate) text: Vec<u8>,
+    /// None where it is more than [`MOST_KEPT`], or where memory for it was refused.
+    text: Option<Vec<u8>>,
 }
 
-impl<R: Read + Drop> Kept<R> {
-    /// Reads a capture to its end. The error is that of the reader, or that memory is refused.
-    pub(crate) fn of(alloc: Global, reader: R) -> io::Result<Kept<R>>
-        ensures { IfOk result (λ kept. IfSome (R.remaining reader) (λ known. kept.text.items ≡ known)) }
+impl<R: Read + Drop> Keeping<R> {
+    /// A reader that gave nothing yet.
+    pub(crate) fn new(alloc: Global, reader: R) -> Keeping<R>
+        ensures { result.reader ≡ reader }
     {
-        let mut reader = reader;
-        let mut text = Vec::new(alloc);
-        reader.read_to_end(&mut text)?;
-        Ok(Kept { reader, text })
+        Keeping {
+            reader,
+            text: Some(Vec::new(alloc)),
+        }
     }
 
-    /// The capture, to be read from its beginning.
-    pub(crate) fn again(&self) -> Again<'_, R>
-        ensures { still_to_come R.remaining result ≡ Some self.now.text.items }
-    {
-        Again::Kept(self.text.as_slice())
+    /// What it gave so far; an error where that is not kept.
+    pub(crate) fn text(&self) -> Result<&[u8], AllocError> {
+        match &self.text {
+            Some(text) => Ok(text.as_slice()),
+            None => Err(AllocError),
+        }
     }
+
+    /// Reads on to the end, so that the text is whole. It is not kept where it is too long, where the reader fails, or where memory is
+    /// refused.
+    pub(crate) fn read_rest(&mut self) {
+        let Some(text) = &mut self.text else {
+            return;
+        };
+        let left = MOST_KEPT.saturating_sub(text.len()) as u64;
+        let rest = self.reader.by_ref().take(left + 1).read_to_end(text);
+        if rest.is_err() || text.len() > MOST_KEPT {
+            self.text = None;
+        }
+    }
+}
+
+impl<R: Read + Drop> Read for Keeping<R> {
+    ghost remaining = { λ k. R.remaining k.reader };
+
+    fn read(&mut self, place: &mut [u8]) -> io::Result<usize> {
+        let taken = self.reader.read(place)?;
+        keep(&mut self.text, &place[..taken]);
+        Ok(taken)
+    }
+}
+
+/// Keeps these bytes too, or gives all memory back where they are too many, or where memory for them is refused.
+fn keep(text: &mut Option<Vec<u8>>, bytes: &[u8]) {
+    let has_room = match text {
+        Some(kept) => {
+            bytes.len() <= MOST_KEPT.saturating_sub(kept.len())
+                && kept.extend_from_slice(bytes).is_ok()
+        }
+        None => true,
+    };
+    if !has_room {
+        *text = None;
+    }
+}
+
+/// A text, to be read from its beginning where another capture of the program is read.
+pub(crate) fn text_again<R: Read + Drop>(text: &[u8]) -> Again<'_, R>
+    ensures { still_to_come R.remaining result ≡ Some text.now }
+{
+    Again::Kept(text)
+}
+
+/// Reads a capture to its end, to be read again and again. The error is that of the reader, or that memory is refused.
+pub(crate) fn read_whole<R: Read + Drop>(alloc: Global, reader: R) -> io::Result<Vec<u8>>
+    ensures { IfOk result (λ text. IfSome (R.remaining reader) (λ known. text.items ≡ known)) }
+{
+    let mut reader = reader;
+    let mut text = Vec::new(alloc);
+    reader.read_to_end(&mut text)?;
+    Ok(text)
 }

@@ -22,8 +22,9 @@ pub enum Message {
     Refused(RefusedExport),
     /// A log was converted, and this is to be said of its times.
     Notice(Notice),
-    /// These lines: what to look at besides the answers to several terms, or what went wrong with a split and what it left behind.
-    Hints(String),
+    /// These lines: what to look at besides the answers to several terms, what to ask next after a `why`, or what went wrong with a split
+    /// and what it left behind.
+    Lines(String),
     /// There is nothing to draw.
     NothingToDraw(WhyNothing),
     /// The reader failed or was interrupted at this data row, counted from 1; 0 is the header.

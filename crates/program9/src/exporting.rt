@@ -164,7 +164,7 @@ fn with_left(alloc: Global, end: Outcome, name: &str, parts: u32) -> Outcome
     }
     let Outcome { status, message } = end;
     match left_text(alloc, &message, name, parts) {
-        Ok(text) => Outcome::new(status, Message::Hints(text)),
+        Ok(text) => Outcome::new(status, Message::Lines(text)),
         Err(_) => Outcome::new(status, message),
     }
 }

@@ -10,14 +10,15 @@ use crate::again::Again;
 use crate::buffered::Buffered;
 use crate::ending::Outcome;
 use crate::exporting::{convert, split};
-use crate::making::{draw, make, make_page, rewrite_times, tell_info};
+use crate::making::{draw, make, make_page, rewrite_times, tell_info, tell_touches};
+use crate::next::{hinted, is_worth_asking, reading};
 use crate::status::{
     outcome, outcome_in_parts, outcome_kept, outcome_made, outcome_rewritten, outcome_told,
 };
 use crate::trying::try_each;
 use deck9::Profile;
 use judge9::{judge_for, judge_parts_for, judge_with_run_for};
-use report9::{JudgeError, RunVerdict, Scope, Verdict, write_run_for};
+use report9::{Extent, JudgeError, RunVerdict, Scope, Verdict, write_run_for};
 use std::alloc::Global;
 use std::io::{self, Read, Write};
 use view9::{ClockFault, write_json_run};
@@ -48,7 +49,8 @@ pub struct Named {
 /// Judges the capture that the reader gives as the job says, and passes the whole report on to the writer behind the buffer.
 ///
 /// The report is that of `judge_for`, that of `judge_parts_for`, or the text of the run that `judge_with_run_for` answered, of which
-/// there is none where there is no verdict; or it is what a view makes, of which nothing is promised here. A page says which files the words
+/// there is none where there is no verdict; or it is what a view makes, of which nothing is promised here. Below `why` lines may be said of
+/// what to ask next. A page says which files the words
 /// name. An export becomes a capture, and a capture is cut into parts, each of which `make_part` makes: it is asked with the part's name,
 /// and must not give a file that was there before. The end is that of the verdict, of the totals or of the refusal of that judging, as
 /// [`outcome`] and [`outcome_in_parts`] say, where the writer took the whole report. Else it is a write fault, and the writer has a
@@ -77,26 +79,27 @@ pub fn judge_and_flush<
             outcome(&ended(out, judged))
         }
         Report::ToBreak(view) => {
-            let judged = judge_for(
-                alloc,
-                Again::Opened(reader),
-                out,
-                view,
+            let scope = Scope {
+                extent: Extent::FirstBreak,
                 beginning,
-                &job.profile,
-            );
-            outcome(&ended(out, judged))
+            };
+            let mut kept = None;
+            let reader = reading(alloc, reader, view, &job.asked, &mut kept);
+            let judged = judge_for(alloc, reader, out, view, beginning, &job.profile);
+            let judged = ended(out, judged);
+            let (is_worth, end) = (is_worth_asking(&judged), outcome(&judged));
+            hinted(alloc, kept, view, scope, job.profile, is_worth, end)
         }
         Report::Parts(view) => {
-            let judged = judge_parts_for(
-                alloc,
-                Again::Opened(reader),
-                out,
-                view,
+            let scope = Scope {
+                extent: Extent::WholeCapture,
                 beginning,
-                &job.profile,
-            );
-            outcome_in_parts(&ended(out, judged))
+            };
+            let mut kept = None;
+            let reader = reading(alloc, reader, view, &job.asked, &mut kept);
+            let judged = judge_parts_for(alloc, reader, out, view, beginning, &job.profile);
+            let end = outcome_in_parts(&ended(out, judged));
+            hinted(alloc, kept, view, scope, job.profile, true, end)
         }
         Report::Made(made, extent) => {
             let judged = make(alloc, Again::Opened(reader), out, made, extent, &job);
@@ -118,6 +121,10 @@ pub fn judge_and_flush<
             let scope = Scope { extent, beginning };
             let told = try_each(alloc, reader, out, scope, job.profile);
             outcome_kept(ended(out, told))
+        }
+        Report::Touches => {
+            let judged = tell_touches(alloc, Again::Opened(reader), out, &job);
+            outcome_made(&ended(out, judged))
         }
         Report::Picture(extent) => {
             let scope = Scope { extent, beginning };

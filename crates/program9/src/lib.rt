@@ -12,6 +12,7 @@ mod judging;
 pub mod laws;
 mod making;
 mod message;
+mod next;
 mod no_header;
 mod program;
 mod sheet;

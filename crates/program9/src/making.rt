@@ -2,7 +2,7 @@
 ghost use Rattle.std.specs.Prelude.{IfOk};
 ghost use Rattle.program9.specs.Judging.{IsDrawn, IsPaged};
 
-use crate::again::Kept;
+use crate::again::{read_whole, text_again};
 use crate::ending::Outcome;
 use crate::judging::{Job, Named};
 use crate::status::{outcome_drawn, outcome_made};
@@ -15,6 +15,7 @@ use std::alloc::Global;
 use std::io::{BufReader, Read, Write};
 use view9::{
     ClockFault, Ending, write_clock, write_delays, write_digest, write_json, write_motion,
+    write_touches,
 };
 use words9::{Made, VERSION_LINE};
 
@@ -39,6 +40,17 @@ pub(crate) fn make<R: Read + Drop, W: Write>(
         Made::Motion => write_motion(alloc, reader, writer, scope, stretch, profile),
         Made::Json(view) => write_json(alloc, reader, writer, view, scope, stretch, profile),
     }
+}
+
+/// Judges the capture that the reader gives to its first break, and tells where somebody must have touched the panel: how the judging ends.
+#[inline(never)] // as above
+pub(crate) fn tell_touches<R: Read + Drop, W: Write>(
+    alloc: Global,
+    reader: R,
+    writer: &mut W,
+    job: &Job,
+) -> Result<Ending, JudgeError> {
+    write_touches(alloc, reader, writer, job.asked.beginning, &job.profile)
 }
 
 /// Writes what the capture that the reader gives says of itself.
@@ -75,8 +87,8 @@ pub(crate) fn draw<R: Read + Drop, W: Write>(
 ) -> Result<Outcome, JudgeError>
     ensures { IfOk result IsDrawn }
 {
-    let kept = match Kept::of(alloc, reader) {
-        Ok(kept) => kept,
+    let text = match read_whole(alloc, reader) {
+        Ok(text) => text,
         Err(e) => return unkept(&e),
     };
     let drawing = job.asked.drawing;
@@ -85,8 +97,8 @@ pub(crate) fn draw<R: Read + Drop, W: Write>(
         width: drawing.width,
     };
     let capture = Twice {
-        first: kept.again(),
-        second: kept.again(),
+        first: text_again::<R>(text.as_slice()),
+        second: text_again::<R>(text.as_slice()),
     };
     let drawn = write_picture(alloc, capture, writer, scope, &job.profile, &wanted)?;
     Ok(outcome_drawn(&drawn))
@@ -103,12 +115,12 @@ pub(crate) fn make_page<R: Read + Drop, W: Write>(
 ) -> Result<Outcome, JudgeError>
     ensures { IfOk result IsPaged }
 {
-    let kept = match Kept::of(alloc, reader) {
-        Ok(kept) => kept,
+    let text = match read_whole(alloc, reader) {
+        Ok(text) => text,
         Err(e) => return unkept(&e),
     };
     let page = PageOf {
-        text: kept.text.as_slice(),
+        text: text.as_slice(),
         file: named.file.as_ref().map(|file| file.as_bytes()),
         sheet: named.sheet.as_ref().map(|sheet| sheet.as_bytes()),
         version: VERSION_LINE.as_bytes(),
@@ -116,9 +128,9 @@ pub(crate) fn make_page<R: Read + Drop, W: Write>(
         stretch: job.asked.stretch,
     };
     let readings = Readings {
-        first: kept.again(),
-        judged: kept.again(),
-        drawn: kept.again(),
+        first: text_again::<R>(text.as_slice()),
+        judged: text_again::<R>(text.as_slice()),
+        drawn: text_again::<R>(text.as_slice()),
     };
     let ending = write_page(alloc, readings, writer, &job.profile, &page)?;
     Ok(outcome_made(&Ok(ending)))

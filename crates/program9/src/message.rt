@@ -42,7 +42,7 @@ impl fmt::Display for Message {
                 let notice = notice_text(*notice);
                 write!(f, "ninecheck convert log: {notice}")
             }
-            Message::Hints(lines) => f.write_str(lines.as_str()),
+            Message::Lines(lines) => f.write_str(lines.as_str()),
             Message::NothingToDraw(why) => match why {
                 WhyNothing::Yes => f.write_str("nothing to draw: the verdict is a yes"),
                 WhyNothing::NoPartBreaks => f.write_str("nothing to draw: no part breaks"),

@@ -13,11 +13,12 @@ mod hint;
 mod lines;
 mod terms;
 
-use crate::again::Kept;
+use crate::again::{read_whole, text_again};
 use crate::ending::{Message, Outcome};
 use crate::status::outcome_made;
-use crate::trying::asking::answers_to;
+pub(crate) use crate::trying::asking::answers_to;
 use crate::trying::hint::hints_of;
+pub(crate) use crate::trying::hint::{message_of, put_next};
 use crate::trying::lines::{are_all_refused, lines_of, status_of};
 pub use answer::Answer;
 use deck9::Profile;
@@ -42,11 +43,11 @@ pub(crate) fn try_each<R: Read + Drop, W: Write>(
 ) -> Result<Outcome, JudgeError>
     ensures { TellsAnswers scope profile (R.remaining reader) (W.contents writer.old) result (W.contents writer.new) }
 {
-    let kept = match Kept::of(alloc, reader) {
-        Ok(kept) => kept,
+    let text = match read_whole(alloc, reader) {
+        Ok(text) => text,
         Err(e) => return unkept(&e),
     };
-    match answers_with_hints(alloc, &kept, scope, profile) {
+    match answers_with_hints::<R>(alloc, text.as_slice(), scope, profile) {
         Ok((answers, hints)) => tell_answers(alloc, writer, answers.as_slice(), hints),
         Err(_) => Err(JudgeError::OutOfMemory),
     }
@@ -55,15 +56,20 @@ pub(crate) fn try_each<R: Read + Drop, W: Write>(
 /// The answers to all terms, and what to say besides.
 fn answers_with_hints<R: Read + Drop>(
     alloc: Global,
-    kept: &Kept<R>,
+    text: &[u8],
     scope: Scope,
     own: Profile,
 ) -> Result<(Vec<Answer>, Message), AllocError>
-    ensures answers { IfOk result (λ both. AreAnswers scope own.deck kept.now.text.items (all_terms own) both.0.items) }
+    ensures answers { IfOk result (λ both. AreAnswers scope own.deck text.now (all_terms own) both.0.items) }
     ensures hints { IfOk result (λ both. IsHint both.1) }
 {
-    let answers = answers_to(alloc, kept, scope, own)?;
-    let hints = hints_of(alloc, kept.again(), scope.beginning, answers.as_slice())?;
+    let answers = answers_to::<R>(alloc, text, scope, own)?;
+    let hints = hints_of(
+        alloc,
+        text_again::<R>(text),
+        scope.beginning,
+        answers.as_slice(),
+    )?;
     Ok((answers, hints))
 }
 

@@ -5,11 +5,15 @@
 //! as seldom as it can, and changes no more than it has to. `is_run_of` of the crate `deck9` says whether such states are a run.
 #![tactic(auto)]
 
+mod before_hand;
 mod fewest_hands;
-mod kept_by_hand;
+mod pace;
 mod panel;
 mod search;
+mod stretches;
+mod touched_run;
 mod way_back;
 
-pub use fewest_hands::states_of_run;
-pub use way_back::Pace;
+pub use fewest_hands::{fewest_moves, states_of_run};
+pub use pace::MostSpans;
+pub use touched_run::{Move, TouchedRun};

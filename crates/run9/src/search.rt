@@ -1,6 +1,8 @@
-//! What a search for a run is given. The steps of the search are its methods, in `fewest_hands`, `kept_by_hand` and `way_back`.
+//! What a search for a run is given. The steps of the search are its methods, in `stretches`, `before_hand` and `way_back`.
 
-use crate::way_back::Pace;
+ghost use Rattle.std.specs.Prelude.{◌≡◌};
+
+use crate::pace::{MostSpans, Pace};
 use deck9::Profile;
 use std::alloc::Global;
 
@@ -10,4 +12,22 @@ pub(crate) struct Search<'a> {
     pub(crate) alloc: Global,
     pub(crate) profile: &'a Profile,
     pub(crate) pace: Pace,
+}
+
+impl<'a> Search<'a> {
+    /// A search through so many exchanges, where a tracker has at most about so many spans.
+    pub(crate) fn of(
+        alloc: Global,
+        profile: &'a Profile,
+        exchanges: usize,
+        spans: MostSpans,
+    ) -> Search<'a>
+        ensures { result.profile ≡ profile.entry }
+    {
+        Search {
+            alloc,
+            profile,
+            pace: Pace::of(exchanges, spans),
+        }
+    }
 }

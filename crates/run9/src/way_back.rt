@@ -9,13 +9,14 @@ ghost use Rattle.deck9.specs.Step.{Goes};
 ghost use Rattle.deck9.specs.declared.state.State.{State as AState};
 ghost use Rattle.run9.specs.Working.{CanComeFrom, ComesFrom, AreMarks, GoesBack, LastMarkFollows, last_mark, place_of, tracked_by};
 ghost use Rattle.run9.specs.declared.way_back.Mark.{Mark as AMark};
-ghost use Rattle.track9.specs.Following.{FollowsFrom, KeepsEnds, LeadsFrom};
+ghost use Rattle.track9.specs.Following.{KeepsEnds, LeadsFrom};
 ghost use Rattle.track9.specs.Tracker.{Possible};
 
+use crate::pace::Pace;
 use crate::search::Search;
 use block9::Exchange;
 use deck9::State;
-use sets25::{SharedSet, SpanSet, TimeSet};
+use sets25::{SharedSet, SpanSet};
 use std::alloc::AllocError;
 use track9::Tracker;
 
@@ -24,48 +25,6 @@ use track9::Tracker;
 pub(crate) struct Mark<'d> {
     place: usize,
     tracker: Tracker<'d, SharedSet>,
-}
-
-/// How close marks are put. It bears on speed and memory alone.
-#[derive(Clone, Copy)]
-pub struct Pace {
-    /// Through so many exchanges there is a mark before each.
-    dense: usize,
-    /// Elsewhere the next mark comes so many exchanges on, but at most halfway to where marks are dense.
-    apart: usize,
-}
-
-impl Pace {
-    /// How close marks are put before so many exchanges, where a tracker keeps at most so many spans of times.
-    ///
-    /// The heavier a mark is, the further apart marks are: so all of them together take about as much memory as the exchanges,
-    /// and so do the dense ones.
-    pub fn of(exchanges: usize, spans: usize) -> Pace {
-        /// What a tracker takes beside its times, as spans of 8 bytes.
-        const BARE: usize = 128;
-        /// What dense marks may take however few the exchanges are, as spans.
-        const LEAST: usize = 32768;
-        /// More marks than these would not stay in a processor's cache until they are gone back to.
-        const MOST_DENSE: usize = 256;
-
-        let weight = spans.saturating_add(BARE);
-        Pace {
-            dense: (exchanges.max(LEAST) / weight).min(MOST_DENSE),
-            apart: weight,
-        }
-    }
-
-    /// How far on the next mark comes, where so many exchanges lie between the one before and the place that is led up to.
-    fn step(self, between: usize) -> usize
-        requires { 0 < between }
-        ensures some { 0 < result }
-        ensures within { result ≤ between }
-    {
-        if between <= self.dense {
-            return 1;
-        }
-        self.apart.max(1).min(between - between / 2)
-    }
 }
 
 impl Search<'_> {
@@ -79,9 +38,12 @@ impl Search<'_> {
         requires some { (s : AState) × Possible end.now.states s }
         ensures { IfOk result (λ states. IsRun self.now.profile.now exchanges.now states.items) }
     {
+        let Some(last) = end.member() else {
+            unreachable!();
+        };
         let first = Tracker::of(self.alloc, self.profile)?;
         let mut states = Vec::new(self.alloc);
-        let found = self.go_back(&first, exchanges, end, &mut states);
+        let found = self.go_back_to(&first, exchanges, last, &mut states);
         drop(first);
         match found {
             Ok(_) => {}
@@ -91,27 +53,9 @@ impl Search<'_> {
         Ok(states)
     }
 
-    /// Goes back from some state of the tracker `end` through all of these exchanges to one of the states that the tracker
-    /// before them keeps. The states after each exchange are put after `states`, the last one first.
-    pub(crate) fn go_back<S: TimeSet>(
-        &self,
-        first: &Tracker<SharedSet>,
-        exchanges: &[Exchange],
-        end: &Tracker<S>,
-        states: &mut Vec<State>,
-    ) -> Result<State, AllocError>
-        requires follows { FollowsFrom first.now exchanges.now end.now }
-        requires some { (s : AState) × Possible end.now.states s }
-        ensures { IfOk result (λ s. (t : AState) × GoesBack first.now.profile (Possible first.now.states) exchanges.now t states.old.items states.new.items s) }
-    {
-        let Some(state) = end.member() else {
-            unreachable!();
-        };
-        self.go_back_to(first, exchanges, state, states)
-    }
-
-    /// Goes back from the state `end` through all of these exchanges.
-    fn go_back_to(
+    /// Goes back from the state `end` through all of these exchanges to one of the states that the tracker before them keeps. The
+    /// states after each exchange are put after `states`, the last one first.
+    pub(crate) fn go_back_to(
         &self,
         first: &Tracker<SharedSet>,
         exchanges: &[Exchange],

@@ -9,7 +9,8 @@ use Rattle.block9.specs.declared.block.Block.{Block}
 use Rattle.block9.specs.declared.command.Command.{Command}
 use Rattle.block9.specs.declared.command.Command.TheVariants.{Unlisted}
 use Rattle.block9.specs.declared.replies.ReplyForm.{ReplyForm}
-use Rattle.block9.specs.Command.{fits, is_listed_head}
+use Rattle.block9.specs.Command.{fits}
+use Rattle.sheet9.specs.Sheet.{is_beside}
 use Rattle.block9.specs.Replies.{takes}
 use Rattle.deck9.specs.declared.deck.Deck.{Deck}
 use Rattle.deck9.specs.declared.deck.Forgotten.{Forgotten}
@@ -25,7 +26,7 @@ use Rattle.std.proofs.Common.{subst, sym}
 
 -- the sheet without a table
 abbrev empty : Sheet
-empty = record { forgets = []; names = []; ways = own_ways; replies = [] }
+empty = record { forgets = []; goals = []; names = []; ways = own_ways; replies = [] }
 
 own_way : (g : Mode) → slice_index_or own_ways (index_of g) (modes 0) ≡ way_of None g
 own_way Stop = refl
@@ -39,10 +40,13 @@ none_both true = refl
 none_both false = refl
 
 forgets_none : (deck : Deck) → IsDeckOf empty deck → (head : ℕ) → get nat_cmp deck.forgets head ≡ None
-forgets_none deck of_sheet head = of_sheet.forgets head ∙ none_both (is_listed_head head)
+forgets_none deck of_sheet head = of_sheet.forgets head ∙ none_both (is_beside (λ head. None) head)
 
 also_none : (deck : Deck) → IsDeckOf empty deck → (head : ℕ) → get nat_cmp deck.also_forgets head ≡ None
-also_none deck of_sheet head = of_sheet.also_forgets head ∙ none_both (is_listed_head head)
+also_none deck of_sheet head = of_sheet.also_forgets head ∙ none_both (is_beside (λ head. None) head)
+
+goals_none : (deck : Deck) → IsDeckOf empty deck → (head : ℕ) → get nat_cmp deck.goals head ≡ None
+goals_none deck of_sheet head = of_sheet.goals head
 
 -- nothing is forgotten beside a command
 unless_nothing : (asked : Sense) → unless_sensed asked Nothing ≡ Nothing
@@ -59,12 +63,12 @@ pub same_runs : (deck : Deck) (p : Profile) (es : List Exchange) → IsDeckOf em
     → HasRun (record p { deck = Some deck }) es ↔ HasRun (record p { deck = None }) es
 same_runs deck p es of_sheet = (
   no_more_runs p (Some deck) None (record {
-    effects = λ c s t is does. grind (arith, forgets_none deck of_sheet);
+    effects = λ c s t is does. grind (arith, forgets_none deck of_sheet, goals_none deck of_sheet);
     beside = λ c head s t is forgets. subst (λ g. Forgets (record p { deck = None }) g s t) (sym (none_beside c head))
         (subst (λ g. Forgets (record p { deck = Some deck }) g s t) (deck_beside deck of_sheet c head) forgets);
   }) (λ g m on. rw (of_sheet.ways, own_way g) at on) es,
   no_more_runs p None (Some deck) (record {
-    effects = λ c s t is does. grind (arith, forgets_none deck of_sheet);
+    effects = λ c s t is does. grind (arith, forgets_none deck of_sheet, goals_none deck of_sheet);
     beside = λ c head s t is forgets. subst (λ g. Forgets (record p { deck = Some deck }) g s t) (sym (deck_beside deck of_sheet c head))
         (subst (λ g. Forgets (record p { deck = None }) g s t) (none_beside c head) forgets);
   }) (λ g m on. rw (of_sheet.ways, own_way g) on) es,

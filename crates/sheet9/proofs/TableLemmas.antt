@@ -1,40 +1,91 @@
--- A deck does what the tables of a sheet say.
-use Rattle.sheet9.proofs.Words.{List, nat_cmp, None, Option, refl, Some, sym, ℕ, ◌∙◌, ◌≡◌}
+-- A deck does what the tables of a sheet say, and what is said that commands do is read by a map.
+use mathlib.Core.Path.{fun_ext}
+use Rattle.sheet9.proofs.Words.{arith, List, nat_cmp, None, Option, refl, Some, sym, ℕ, ◌∙◌, ◌≡◌}
+use Rattle.std.proofs.Common.{ap, subst}
 use Rattle.std.specs.BTreeMap.{BTreeMap, get}
-use Rattle.block9.specs.Command.{is_listed_head}
 use Rattle.std.specs.Prelude.{Err, if◌then◌else◌, IsOkAnd, Ok, option_map, Result}
+use Rattle.toml.specs.Data.{Data}
 use Rattle.block9.specs.declared.replies.ReplyForm.{ReplyForm}
 use Rattle.deck9.specs.declared.deck.Deck.{Deck}
 use Rattle.deck9.specs.declared.deck.Forgotten.{Forgotten}
 use Rattle.deck9.specs.declared.mode_set.ModeSet.{ModeSet}
+use Rattle.sheet9.specs.declared.effects.Effects.{Effects}
+use Rattle.sheet9.specs.declared.refusal.SheetError.{SheetError}
+use Rattle.sheet9.specs.declared.refusal.SheetError.TheVariants as error
 use Rattle.sheet9.specs.Refusal.{and_then, Fault}
 use Rattle.sheet9.specs.Entries.{said_at}
-use Rattle.sheet9.specs.Sheet.{IsDeckOf}
-use Rattle.sheet9.specs.Working.{HasSaid, HaveParted}
+use Rattle.sheet9.specs.Goals.{goals_in}
+use Rattle.sheet9.specs.Sheet.{is_beside, IsDeckOf}
+use Rattle.sheet9.specs.Working.{AreEffectsOf, HasSaid, ReportsWithoutLine}
 
-pub tables_mean : (forgets : Result (List (ℕ × Forgotten)) Fault) (names : Result (List (ℕ × List ℕ)) Fault) (ways : Result (List ModeSet) Fault)
-    (replies : Result (List (ℕ × List ReplyForm)) Fault) (deck : Deck)
-    → HaveParted forgets deck.forgets deck.also_forgets → HasSaid (λ name. name.items) names deck.names → ways ≡ Ok deck.ways
+pub tables_mean : (said : Result (List (ℕ × Forgotten) × List (ℕ × ModeSet)) Fault) (names : Result (List (ℕ × List ℕ)) Fault) (ways : Result (List ModeSet) Fault)
+    (replies : Result (List (ℕ × List ReplyForm)) Fault) (effects : Effects) (deck : Deck)
+    → deck.forgets ≡ effects.alone → deck.also_forgets ≡ effects.beside → deck.goals ≡ effects.goals
+    → IsOkAnd said (λ said. AreEffectsOf said effects) → HasSaid (λ name. name.items) names deck.names → ways ≡ Ok deck.ways
     → HasSaid (λ forms. forms.items) replies deck.replies
     → IsOkAnd
-    (and_then forgets (λ f. and_then names (λ n. and_then ways (λ w. and_then replies
-    (λ r. Ok (record { forgets = f; names = n; ways = w; replies = r }))))))
+    (and_then said (λ e. and_then names (λ n. and_then ways (λ w. and_then replies
+    (λ r. Ok (record { forgets = e.0; goals = e.1; names = n; ways = w; replies = r }))))))
     (λ sheet. IsDeckOf sheet deck)
-tables_mean (Ok f) (Ok n) ways (Ok r) deck parted called own taken =
-    rw own (record { forgets = parted.0; also_forgets = parted.1; names = called; ways = refl; replies = taken })
-tables_mean (Ok f) (Ok n) ways (Err fault) deck parted called own taken = absurd taken
-tables_mean (Ok f) (Err fault) ways replies deck parted called own taken = absurd called
-tables_mean (Err fault) names ways replies deck parted called own taken = absurd parted
+tables_mean (Ok e) (Ok n) ways (Ok r) effects deck alone beside goals acts called own taken =
+    let forgotten : (head : ℕ) → get nat_cmp deck.forgets head ≡ (if is_beside (said_at e.1) head then None else said_at e.0 head) = λ head. rw alone (acts.alone head) in
+    let also : (head : ℕ) → get nat_cmp deck.also_forgets head ≡ (if is_beside (said_at e.1) head then said_at e.0 head else None) = λ head. rw beside (acts.beside head) in
+    let leads : (head : ℕ) → get nat_cmp deck.goals head ≡ said_at e.1 head = λ head. rw goals (acts.goals head) in
+    rw own (record { forgets = forgotten; also_forgets = also; goals = leads; names = called; ways = refl; replies = taken })
+tables_mean (Ok e) (Ok n) ways (Err fault) effects deck alone beside goals acts called own taken = absurd taken
+tables_mean (Ok e) (Err fault) ways replies effects deck alone beside goals acts called own taken = absurd called
+tables_mean (Err fault) names ways replies effects deck alone beside goals acts called own taken = absurd acts
+
+-- ---- what is said that commands do
 
 itself : {X : Type 0} (o : Option X) → option_map (λ x. x) o ≡ o
 itself None = refl
 itself (Some x) = refl
 
--- what a map says, where it is parted in two
-pub parted_means : (meaning : Result (List (ℕ × Forgotten)) Fault) (m unlisted listed : BTreeMap ℕ Forgotten) → HasSaid (λ forgotten. forgotten) meaning m
-    → ((head : ℕ) → get nat_cmp unlisted head ≡ (if is_listed_head head then None else get nat_cmp m head))
-    → ((head : ℕ) → get nat_cmp listed head ≡ (if is_listed_head head then get nat_cmp m head else None)) → HaveParted meaning unlisted listed
-parted_means (Ok said) m unlisted listed has first second =
-    let same : (head : ℕ) → get nat_cmp m head ≡ said_at said head = λ head. sym (itself (get nat_cmp m head)) ∙ has head in
-    (λ head. rw (sym (same head)) (first head), λ head. rw (sym (same head)) (second head))
-parted_means (Err fault) m unlisted listed has first second = absurd has
+-- a map is asked as what is said
+same_said : {X : Type 0} (said : List (ℕ × X)) (m : BTreeMap ℕ X) → ((head : ℕ) → option_map (λ x. x) (get nat_cmp m head) ≡ said_at said head) → get nat_cmp m ≡ said_at said
+same_said said m has = fun_ext (λ head. sym (itself (get nat_cmp m head)) ∙ has head)
+
+module _ (forgets : Result (List (ℕ × Forgotten)) Fault) (value : Option Data) (forgotten : BTreeMap ℕ Forgotten) (forgot : HasSaid (λ x. x) forgets forgotten) where
+  abbrev meaning : Result (List (ℕ × Forgotten) × List (ℕ × ModeSet)) Fault
+  meaning = and_then forgets (λ f. and_then (goals_in (said_at f) value) (λ g. Ok (f, g)))
+
+  by_map : (f : List (ℕ × Forgotten)) → forgets ≡ Ok f → get nat_cmp forgotten ≡ said_at f
+  by_map f same = same_said f forgotten (subst (λ meaning. HasSaid (λ x. x) meaning forgotten) same forgot)
+
+  pub effects_mean : (effects : Effects) → HasSaid (λ x. x) (goals_in (get nat_cmp forgotten) value) effects.goals
+      → ((head : ℕ) → get nat_cmp effects.alone head ≡ (if is_beside (get nat_cmp effects.goals) head then None else get nat_cmp forgotten head))
+      → ((head : ℕ) → get nat_cmp effects.beside head ≡ (if is_beside (get nat_cmp effects.goals) head then get nat_cmp forgotten head else None))
+      → IsOkAnd meaning (λ said. AreEffectsOf said effects)
+  effects_mean effects leads alone beside = by_forgets forgets refl
+    where
+      by_goals : (f : List (ℕ × Forgotten)) (goals : Result (List (ℕ × ModeSet)) Fault) → get nat_cmp forgotten ≡ said_at f → HasSaid (λ x. x) goals effects.goals
+          → IsOkAnd (and_then goals (λ g. Ok (f, g))) (λ said. AreEffectsOf said effects)
+      by_goals f (Ok g) same led = let goals = same_said g effects.goals led in record {
+        alone = λ head. subst (λ k. get nat_cmp effects.alone head ≡ (if is_beside k head then None else said_at f head)) goals
+            (subst (λ k. get nat_cmp effects.alone head ≡ (if is_beside (get nat_cmp effects.goals) head then None else k head)) same (alone head));
+        beside = λ head. subst (λ k. get nat_cmp effects.beside head ≡ (if is_beside k head then said_at f head else None)) goals
+            (subst (λ k. get nat_cmp effects.beside head ≡ (if is_beside (get nat_cmp effects.goals) head then k head else None)) same (beside head));
+        goals = λ head. ap (λ k. k head) goals;
+      }
+      by_goals f (Err fault) same led = absurd led
+
+      by_forgets : (known : Result (List (ℕ × Forgotten)) Fault) → forgets ≡ known
+          → IsOkAnd (and_then known (λ f. and_then (goals_in (said_at f) value) (λ g. Ok (f, g)))) (λ said. AreEffectsOf said effects)
+      by_forgets (Ok f) same = let map = by_map f same in
+          by_goals f (goals_in (said_at f) value) map (subst (λ said. HasSaid (λ x. x) (goals_in said value) effects.goals) map leads)
+      by_forgets (Err fault) same = absurd (subst (λ meaning. HasSaid (λ x. x) meaning forgotten) same forgot)
+
+  pub effects_fault : (e : SheetError) → ReportsWithoutLine (goals_in (get nat_cmp forgotten) value) e → ReportsWithoutLine meaning e
+  effects_fault e wrong = by_forgets forgets refl
+    where
+      first : (f : List (ℕ × Forgotten)) (goals : Result (List (ℕ × ModeSet)) Fault) (e : SheetError) → ReportsWithoutLine goals e
+          → ReportsWithoutLine {A = List (ℕ × Forgotten) × List (ℕ × ModeSet)} (and_then goals (λ g. Ok (f, g))) e
+      first f (Err fault) (error.Refused r) (same, line) = (grind (arith, same), line)
+      first f (Ok g) (error.Refused r) (same, line) = grind (arith, same)
+      first f goals error.OutOfMemory reports = tt
+
+      by_forgets : (known : Result (List (ℕ × Forgotten)) Fault) → forgets ≡ known
+          → ReportsWithoutLine {A = List (ℕ × Forgotten) × List (ℕ × ModeSet)} (and_then known (λ f. and_then (goals_in (said_at f) value) (λ g. Ok (f, g)))) e
+      by_forgets (Ok f) same = first f _ e (subst (λ said. ReportsWithoutLine (goals_in said value) e) (by_map f same) wrong)
+      by_forgets (Err fault) same = absurd (subst (λ meaning. HasSaid (λ x. x) meaning forgotten) same forgot)

@@ -1,5 +1,6 @@
 pub mod Entries
 pub mod Forgets
+pub mod Goals
 pub mod Head
 pub mod Names
 pub mod Passes

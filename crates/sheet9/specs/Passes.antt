@@ -9,6 +9,7 @@ use Rattle.deck9.specs.ModeCalls.{way}
 use Rattle.deck9.specs.ModeSet.{bit_of, either, modes}
 use Rattle.sheet9.specs.declared.refusal.EntryFault.TheVariants.{NoGoal, NoModes}
 use Rattle.sheet9.specs.declared.refusal.ItemFault.TheVariants.{NoMode}
+use Rattle.sheet9.specs.declared.refusal.TableName.{TableName}
 use Rattle.sheet9.specs.declared.refusal.TableName.TheVariants.{Passes}
 use Rattle.sheet9.specs.Refusal.{Fault, NoTable, Entry, Item, and_then}
 
@@ -16,21 +17,21 @@ use Rattle.sheet9.specs.Refusal.{Fault, NoTable, Entry, Item, and_then}
 abbrev pub mode_named : List ℕ → Option Mode
 mode_named name = find (λ m. bytes_eq name (name_of m)) every_mode
 
--- the mode that an item of a list names, under the key of a goal; the item is given as a text, where it is one
-abbrev pub mode_in : List ℕ → Option (List ℕ) → Result Mode Fault
-mode_in key None = Err (Entry Passes key NoModes)
-mode_in key (Some name) = ok_or (mode_named name) (Item Passes key name NoMode)
+-- the mode that an item of a list names, under a key of a table; the item is given as a text, where it is one
+abbrev pub mode_in : TableName → List ℕ → Option (List ℕ) → Result Mode Fault
+mode_in table key None = Err (Entry table key NoModes)
+mode_in table key (Some name) = ok_or (mode_named name) (Item table key name NoMode)
 
 -- a set with the modes that a list names; or what is wrong with the first item that is wrong
-abbrev pub with_names : List ℕ → ModeSet → Items → Result ModeSet Fault
-with_names key set no_items = Ok set
-with_names key set (item value rest) =
-    and_then (mode_in key (as_str value)) (λ mode. with_names key (either set (modes (bit_of mode))) rest)
+abbrev pub with_names : TableName → List ℕ → ModeSet → Items → Result ModeSet Fault
+with_names table key set no_items = Ok set
+with_names table key set (item value rest) =
+    and_then (mode_in table key (as_str value)) (λ mode. with_names table key (either set (modes (bit_of mode))) rest)
 
 -- the modes on the way to a goal by its entry: those of the profile, and those that the entry's list names
 abbrev pub way_with : List ℕ → Mode → Option Items → Result ModeSet Fault
 way_with key goal None = Err (Entry Passes key NoModes)
-way_with key goal (Some names) = with_names key (way goal) names
+way_with key goal (Some names) = with_names Passes key (way goal) names
 
 -- the ways to the goals in the order of the modes, with those of some entries in place of theirs; or what is wrong with the first
 -- entry that is wrong, in the order of the keys

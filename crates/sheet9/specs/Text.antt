@@ -3,13 +3,13 @@ use Rattle.std.specs.Prelude.{ℕ, List, ◌++◌, codes, flat_map, encode_utf8_
 use Rattle.std.specs.Char.Escape.{escape_ascii}
 use Rattle.std.specs.Fmt.{decimal}
 use Rattle.sheet9.specs.declared.refusal.EntryFault.{EntryFault}
-use Rattle.sheet9.specs.declared.refusal.EntryFault.TheVariants.{NotTwoBytes, Reply, Sense, Listed, NoGoal, NotForgotten, NoText, NameCharacter, NameStart, NameLength, NameBlanks, NoModes, NoReplies, EmptyList, NamedTwice}
+use Rattle.sheet9.specs.declared.refusal.EntryFault.TheVariants.{NotTwoBytes, Reply, Sense, Listed, HasEffect, NotOfTransport, NoGoal, NotForgotten, NoText, NameCharacter, NameStart, NameLength, NameBlanks, NoModes, EmptyModes, NoReplies, EmptyList, ForgetsMore, NamedTwice}
 use Rattle.sheet9.specs.declared.refusal.ItemFault.{ItemFault}
 use Rattle.sheet9.specs.declared.refusal.ItemFault.TheVariants.{NoMode, NoReply, Command}
 use Rattle.sheet9.specs.declared.refusal.Refusal.{Refusal}
 use Rattle.sheet9.specs.declared.refusal.Refusal.TheVariants.{NotToml, UnknownKey, NoTable, Entry, Item}
 use Rattle.sheet9.specs.declared.refusal.TableName.{TableName}
-use Rattle.sheet9.specs.declared.refusal.TableName.TheVariants.{Forgets, Names, Passes, Replies}
+use Rattle.sheet9.specs.declared.refusal.TableName.TheVariants.{Forgets, Goals, Names, Passes, Replies}
 use Rattle.sheet9.specs.declared.refusal.SheetError.{SheetError}
 use Rattle.sheet9.specs.declared.refusal.SheetError.TheVariants as error
 
@@ -24,6 +24,7 @@ quoted text = codes "\"" ++ flat_map escaped text ++ codes "\""
 -- the name of a table
 abbrev pub name_of : TableName → List ℕ
 name_of Forgets = codes "forgets"
+name_of Goals = codes "goals"
 name_of Names = codes "names"
 name_of Passes = codes "passes"
 name_of Replies = codes "replies"
@@ -38,6 +39,8 @@ words_of NotTwoBytes = codes "not two bytes in hexadecimal, as \"20 61\""
 words_of Reply = codes "groups 1 and 7 are a deck's replies, not commands"
 words_of Sense = codes "a listed sense request: it changes nothing"
 words_of Listed = codes "a listed command: it has its name"
+words_of HasEffect = codes "a listed command: the rules say where it leads"
+words_of NotOfTransport = codes "a command of another group than 2 leads to no mode"
 words_of NoGoal = no_mode
 words_of NotForgotten = codes "not \"nothing\", \"motion\", \"registers\", \"tape\" or \"everything\""
 words_of NoText = codes "not a text, as \"FULL EE ON\""
@@ -47,7 +50,9 @@ words_of NameLength = codes "a name has no more than 24 characters"
 words_of NameBlanks = codes "a name has no blank at its end, and no two together"
 words_of NoModes = codes "not a list of modes, as [\"SHUTTLE\", \"JOG\"]"
 words_of NoReplies = codes "not a list of replies, as [\"74 08\", \"7* 21\"]"
+words_of EmptyModes = codes "an empty list: at least one mode is wanted"
 words_of EmptyList = codes "an empty list: at least one reply is wanted"
+words_of ForgetsMore = codes "[forgets] has another word for it than \"nothing\" and \"registers\""
 words_of NamedTwice = codes "named twice"
 
 -- what is wrong with a text in a list
@@ -59,7 +64,7 @@ words_of_item Command = codes "no reply: groups 0, 2, 4 and 6 are a controller's
 -- the text of a refusal
 abbrev pub text_of : Refusal → List ℕ
 text_of (NotToml line) = codes "line " ++ decimal line ++ codes ": not TOML"
-text_of (UnknownKey key) = quoted (string_bytes key) ++ codes ": unknown key: only [forgets], [names], [passes] and [replies] are read"
+text_of (UnknownKey key) = quoted (string_bytes key) ++ codes ": unknown key: only [forgets], [goals], [names], [passes] and [replies] are read"
 text_of (NoTable table) = codes "\"" ++ name_of table ++ codes "\": not a table"
 text_of (Entry table key fault) = codes "[" ++ name_of table ++ codes "] " ++ quoted (string_bytes key) ++ codes ": " ++ words_of fault
 text_of (Item table key item fault) =

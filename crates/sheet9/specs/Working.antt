@@ -2,12 +2,14 @@
 use Rattle.std.specs.Prelude.{◌≡◌, ℕ, if◌then◌else◌, List, None, Result, Err, ⊤, IsOkAnd, option_map}
 use Rattle.std.specs.BTreeMap.{BTreeMap, get}
 use Rattle.std.specs.Ordering.{nat_cmp}
-use Rattle.block9.specs.Command.{is_listed_head}
-use Rattle.deck9.specs.declared.deck.Forgotten.{Forgotten}
 use Rattle.sheet9.specs.declared.refusal.SheetError.{SheetError}
 use Rattle.sheet9.specs.declared.refusal.SheetError.TheVariants as error
 use Rattle.sheet9.specs.Entries.{said_at}
+use Rattle.deck9.specs.declared.deck.Forgotten.{Forgotten}
+use Rattle.deck9.specs.declared.mode_set.ModeSet.{ModeSet}
+use Rattle.sheet9.specs.declared.effects.Effects.{Effects}
 use Rattle.sheet9.specs.Refusal.{Fault, fault_of, line_in}
+use Rattle.sheet9.specs.Sheet.{is_beside}
 
 -- an error of a document, which names no line: it is about this fault, or memory was refused
 abbrev pub Says : Fault → SheetError → Type 0
@@ -23,8 +25,8 @@ ReportsWithoutLine meaning error.OutOfMemory = ⊤
 abbrev pub HasSaid : {V A : Type 0} → (V → A) → Result (List (ℕ × A)) Fault → BTreeMap ℕ V → Type 0
 HasSaid read meaning m = IsOkAnd meaning (λ said. (head : ℕ) → option_map read (get nat_cmp m head) ≡ said_at said head)
 
--- one map has what is said of commands that are not listed, the other what is said of those that are
-abbrev pub HaveParted : Result (List (ℕ × Forgotten)) Fault → BTreeMap ℕ Forgotten → BTreeMap ℕ Forgotten → Type 0
-HaveParted meaning unlisted listed = IsOkAnd meaning (λ said.
-    ((head : ℕ) → get nat_cmp unlisted head ≡ (if is_listed_head head then None else said_at said head))
-    × ((head : ℕ) → get nat_cmp listed head ≡ (if is_listed_head head then said_at said head else None)))
+-- commands do what is said of them: at those with an effect they forget beside that
+pub record AreEffectsOf (said : List (ℕ × Forgotten) × List (ℕ × ModeSet)) (effects : Effects) : Type 0 where
+  pub alone : (head : ℕ) → get nat_cmp effects.alone head ≡ (if is_beside (said_at said.1) head then None else said_at said.0 head)
+  pub beside : (head : ℕ) → get nat_cmp effects.beside head ≡ (if is_beside (said_at said.1) head then said_at said.0 head else None)
+  pub goals : (head : ℕ) → get nat_cmp effects.goals head ≡ said_at said.1 head

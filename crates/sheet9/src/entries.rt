@@ -77,7 +77,7 @@ fn read_entries<V: EntryValue>(
 }
 
 /// The command that a key names, by its head.
-fn command_in<V: EntryValue>(alloc: Global, key: &str) -> Result<u32, SheetError>
+pub(crate) fn command_in<V: EntryValue>(alloc: Global, key: &str) -> Result<u32, SheetError>
     ensures ok { IfOk result (λ head. command_in V.table.name V.table.unfit key.now ≡ Ok head) }
     ensures err { IfErr result (ReportsWithoutLine (command_in V.table.name V.table.unfit key.now)) }
 {

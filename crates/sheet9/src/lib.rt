@@ -4,7 +4,9 @@
 //! # an edit deck
 //! [forgets]                  # at a command that it does not refuse
 //! "20 61" = "nothing"
-//! "20 65" = "motion"
+//! "20 62" = "motion"
+//! [goals]                    # modes to which it may lead, or the deck goes on as it was
+//! "20 65" = ["REC"]
 //! [names]                    # of commands that are not listed
 //! "20 61" = "FULL EE ON"
 //! "20 65" = "EDIT ON"
@@ -18,8 +20,10 @@
 //! exactly that, or the first thing that is wrong, which a [`Refusal`] tells in one line.
 #![tactic(auto)]
 
+mod effects;
 mod entries;
 mod forgets;
+mod goals;
 mod head;
 pub mod laws;
 mod names;

@@ -61,28 +61,36 @@ fn read_way(alloc: Global, key: &str, goal: Mode, value: &Value) -> Result<ModeS
     ensures err { IfErr result (ReportsWithoutLine (way_with key.now goal (as_array (view value.now)))) }
 {
     match value.as_array() {
-        Some(names) => with_names(alloc, key, ModeSet::on_the_way(goal), names),
+        Some(names) => {
+            let way = ModeSet::on_the_way(goal);
+            with_names(alloc, TableName::Passes, key, way, names)
+        }
         None => Err(SheetError::of_entry(alloc, TableName::Passes, key, EntryFault::NoModes)),
     }
 }
 
-/// A set with the modes that a list names.
-fn with_names(alloc: Global, key: &str, set: ModeSet, names: &Array) -> Result<ModeSet, SheetError>
-    ensures ok { IfOk result (λ way. with_names key.now set (array_view names.now) ≡ Ok way) }
-    ensures err { IfErr result (ReportsWithoutLine (with_names key.now set (array_view names.now))) }
+/// A set with the modes that a list names, under a key of a table.
+pub(crate) fn with_names(
+    alloc: Global,
+    table: TableName,
+    key: &str,
+    set: ModeSet,
+    names: &Array,
+) -> Result<ModeSet, SheetError>
+    ensures ok { IfOk result (λ modes. with_names table key.now set (array_view names.now) ≡ Ok modes) }
+    ensures err { IfErr result (ReportsWithoutLine (with_names table key.now set (array_view names.now))) }
 {
-    let mut way = set;
+    let mut modes = set;
     'names: for value in names {
         let Some(name) = value.as_str() else {
-            return Err(SheetError::of_entry(alloc, TableName::Passes, key, EntryFault::NoModes));
+            return Err(SheetError::of_entry(alloc, table, key, EntryFault::NoModes));
         };
         let Some(mode) = mode_named(name) else {
-            let fault = ItemFault::NoMode;
-            return Err(SheetError::of_item(alloc, TableName::Passes, key, name, fault));
+            return Err(SheetError::of_item(alloc, table, key, name, ItemFault::NoMode));
         };
-        way = way.or(ModeSet::just(mode));
+        modes = modes.or(ModeSet::just(mode));
     }
-    Ok(way)
+    Ok(modes)
 }
 
 /// The mode with this name.

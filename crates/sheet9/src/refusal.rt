@@ -61,6 +61,8 @@ pub enum Refusal {
 pub enum TableName {
     /// What is forgotten at some commands.
     Forgets,
+    /// To which modes some commands may lead that are not listed.
+    Goals,
     /// What some commands are called.
     Names,
     /// Which modes a deck may show on the way to a goal.
@@ -80,6 +82,10 @@ pub enum EntryFault {
     Sense,
     /// The key of `[names]` names a listed command: that has its name.
     Listed,
+    /// The key of `[goals]` names a listed command: the rules say where that leads.
+    HasEffect,
+    /// The key of `[goals]` names a command of another group than 2.
+    NotOfTransport,
     /// The key of `[passes]` is no name of a mode.
     NoGoal,
     /// The value is none of the five words for what is forgotten.
@@ -96,10 +102,14 @@ pub enum EntryFault {
     NameBlanks,
     /// The value is no list, or has an item that is no text, where a list of modes is wanted.
     NoModes,
+    /// The list of modes is empty, where one at least is wanted.
+    EmptyModes,
     /// The value is no list, or has an item that is no text, where a list of replies is wanted.
     NoReplies,
     /// The list of replies is empty.
     EmptyList,
+    /// The entry of `[goals]` is right by itself, and `[forgets]` has another word for its command than `"nothing"` and `"registers"`.
+    ForgetsMore,
     /// The entry is right by itself, and another key before it names the same command.
     NamedTwice,
 }

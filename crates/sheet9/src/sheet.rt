@@ -6,8 +6,8 @@ ghost use Rattle.sheet9.specs.Refusal.{NamesFaultLine, Reports, line_after};
 ghost use Rattle.sheet9.specs.Sheet.{IsDeckOf, document_of, meaning_of, sheet_of, unknown_key};
 ghost use Rattle.sheet9.specs.Working.{ReportsWithoutLine};
 
+use crate::effects::read_effects;
 use crate::entries::read_table;
-use crate::forgets::read_forgets;
 use crate::passes::read_passes;
 use crate::refusal::{Refusal, SheetError};
 use deck9::Deck;
@@ -18,7 +18,7 @@ use toml::{Table, Value};
 /// Reads the text of a sheet: the deck that does what it says.
 ///
 /// An error is `Refused` where the text is not a sheet, and says what is wrong first: that it is not TOML (or not UTF-8), then
-/// an unknown key at the top, then what is wrong with `[forgets]`, then with `[names]`, `[passes]` and `[replies]`. The line of
+/// an unknown key at the top, then what is wrong with `[forgets]`, then with `[goals]`, `[names]`, `[passes]` and `[replies]`. The line of
 /// `NotToml` is that of the first byte that is not UTF-8, where there is one. Else it is the line that the toml library names:
 /// that the text has such a line is proved, and that it is the line of the fault is only tested. The error is `OutOfMemory` where
 /// a growth of memory was refused, which says nothing of the text.
@@ -37,13 +37,14 @@ fn read_tables(alloc: Global, top: &Table) -> Result<Deck, SheetError>
     ensures err { IfErr result (ReportsWithoutLine (meaning_of (table_view top.now))) }
 {
     check_keys(alloc, top)?;
-    let forgets = read_forgets(alloc, value_at(top, "forgets"))?;
+    let effects = read_effects(alloc, value_at(top, "forgets"), value_at(top, "goals"))?;
     let names = read_table(alloc, value_at(top, "names"))?;
     let ways = read_passes(alloc, value_at(top, "passes"))?;
     let replies = read_table(alloc, value_at(top, "replies"))?;
     Ok(Deck {
-        forgets: forgets.unlisted,
-        also_forgets: forgets.listed,
+        forgets: effects.alone,
+        goals: effects.goals,
+        also_forgets: effects.beside,
         ways,
         names,
         replies,
@@ -110,7 +111,7 @@ fn check_keys(alloc: Global, top: &Table) -> Result<(), SheetError>
 {
     'keys: for (key, _value) in top.iter() {
         match key.as_str() {
-            "forgets" | "names" | "passes" | "replies" => {}
+            "forgets" | "goals" | "names" | "passes" | "replies" => {}
             unknown => {
                 let key = String::from_str(alloc, unknown)?;
                 return Err(SheetError::Refused(Refusal::UnknownKey { key }));

@@ -36,7 +36,7 @@ impl fmt::Display for Refusal {
                 let key = Quoted(key.as_str());
                 write!(
                     f,
-                    "{key}: unknown key: only [forgets], [names], [passes] and [replies] are read"
+                    "{key}: unknown key: only [forgets], [goals], [names], [passes] and [replies] are read"
                 )
             }
             Refusal::NoTable { table } => {
@@ -67,6 +67,7 @@ fn name_of<'a>(table: TableName) -> &'a str
 {
     match table {
         TableName::Forgets => "forgets",
+        TableName::Goals => "goals",
         TableName::Names => "names",
         TableName::Passes => "passes",
         TableName::Replies => "replies",
@@ -85,6 +86,8 @@ fn words_of<'a>(fault: EntryFault) -> &'a str
         EntryFault::Reply => "groups 1 and 7 are a deck's replies, not commands",
         EntryFault::Sense => "a listed sense request: it changes nothing",
         EntryFault::Listed => "a listed command: it has its name",
+        EntryFault::HasEffect => "a listed command: the rules say where it leads",
+        EntryFault::NotOfTransport => "a command of another group than 2 leads to no mode",
         EntryFault::NoGoal => NO_MODE,
         EntryFault::NotForgotten =>
             "not \"nothing\", \"motion\", \"registers\", \"tape\" or \"everything\"",
@@ -95,7 +98,10 @@ fn words_of<'a>(fault: EntryFault) -> &'a str
         EntryFault::NameBlanks => "a name has no blank at its end, and no two together",
         EntryFault::NoModes => "not a list of modes, as [\"SHUTTLE\", \"JOG\"]",
         EntryFault::NoReplies => "not a list of replies, as [\"74 08\", \"7* 21\"]",
+        EntryFault::EmptyModes => "an empty list: at least one mode is wanted",
         EntryFault::EmptyList => "an empty list: at least one reply is wanted",
+        EntryFault::ForgetsMore =>
+            "[forgets] has another word for it than \"nothing\" and \"registers\"",
         EntryFault::NamedTwice => "named twice",
     }
 }

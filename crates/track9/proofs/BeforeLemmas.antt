@@ -9,7 +9,7 @@ use Rattle.track9.proofs.Words.{is_some, IsPattern, IsEntry, IsState, IsUndone, 
 use Rattle.track9.proofs.Words.{no_entries, no_states, None, on_halves, Option, option_map, PairRunsTo, Part, Possible}
 use Rattle.track9.proofs.Words.{refl, refused, RegAudioIn, RegAudioOut, RegIn, Register, RegOut, rules, RunsTo, same_fact}
 use Rattle.track9.proofs.Words.{shown_with, Shows, Some, some_entry, some_mode, some_pair, State, States, DeckStep, Stop, subst, sym, true, true_from_ne_false, halves_of, way}
-use Rattle.track9.proofs.Words.{any_panel, AreWhole, KeepsPanel, panel_before, panel_switched, Profile, profile_of, Rate, rate_for, with_wanted, with_entry, ◌||◌, ◌↔◌, ◌∙◌, ◌≡◌, ◌⊎◌}
+use Rattle.track9.proofs.Words.{any_panel, AreWhole, KeepsOrGoes, KeepsPanel, panel_before, panel_switched, Profile, profile_of, Rate, rate_for, with_wanted, with_entry, ◌||◌, ◌↔◌, ◌∙◌, ◌≡◌, ◌⊎◌}
 use Rattle.deck9.specs.declared.effect.Effect.TheVariants as effect
 use Rattle.deck9.specs.declared.mode.Mode.TheVariants as mode
 use Rattle.deck9.specs.declared.state.Hands.TheVariants as hands
@@ -31,7 +31,7 @@ same_state s t goal shown ins outs ains aouts local panel = grind arith
 pub fits_self : (t : State) → Fits (just_state t) t
 fits_self t = search (rules, mode_just)
 
-fits_just : (t d : State) → Fits (just_state t) d → t ≡ d
+pub fits_just : (t d : State) → Fits (just_state t) d → t ≡ d
 fits_just t d f = same_state t d (just_mode t.goal d.goal f.goal) (just_mode t.shown d.shown f.shown) f.ins f.outs f.ains f.aouts f.local f.panel
 
 -- ---- one entry
@@ -76,14 +76,14 @@ wanted_exactly : (p : Profile) (e : Effect) (t d : State) → IsState p.rate t �
 wanted_exactly p (effect.Go g) t d after before = cond_both (is_mode t.goal g) (Some (any_goal t)) None (λ o. FitsSome o d ↔ (t ≡ record d { goal = g }))
     (λ e. (goal_state t d g (is_mode-same t.goal g e), λ goes. rw goes (fits_goal d g)))
     (λ e. (λ f. absurd f, λ goes. absurd (false≢true (sym e ∙ rw goes (mode_self g)))))
-wanted_exactly p effect.KeepOrStop t d after before = cond_both (is_mode t.goal mode.Stop) (any_goal t) (just_state t)
-    (λ a. Fits a d ↔ ((t ≡ d) ⊎ (t ≡ record d { goal = mode.Stop })))
+wanted_exactly p (effect.KeepOr goals) t d after before = cond_both (has goals.0 t.goal) (any_goal t) (just_state t)
+    (λ a. Fits a d ↔ KeepsOrGoes goals d t)
     (λ e. (
-      λ f. inr (goal_state t d mode.Stop (is_mode-same t.goal mode.Stop e) f),
+      λ f. inr (e, goal_state t d t.goal refl f),
       λ w. elim w
-          [ inl keeps ↦ rw keeps (fits_goal d d.goal) | inr stops ↦ rw stops (fits_goal d mode.Stop) ],
+          [ inl keeps ↦ rw keeps (fits_goal d d.goal) | inr (goes, same) ↦ rw same (fits_goal d t.goal) ],
     ))
-    (λ e. (λ f. inl (fits_just t d f), λ w. elim w [ inl keeps ↦ rw keeps (fits_self d) | inr stops ↦ absurd (false≢true (sym e ∙ rw stops refl)) ]))
+    (λ e. (λ f. inl (fits_just t d f), λ w. elim w [ inl keeps ↦ rw keeps (fits_self d) | inr (goes, same) ↦ absurd (false≢true (sym e ∙ goes)) ]))
 wanted_exactly p (effect.Change r c) t d after before =
     let change = change_exactly r (entry_before p.rate c (entry_of r t)) t d in let becomes = becomes_exactly p.rate c (entry_of r d) (entry_of r t) (before r) (after r) in (
       λ f. let w = change.0 f in (entry_of r t, becomes.0 w.0, w.1),

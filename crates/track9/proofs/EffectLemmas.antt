@@ -4,16 +4,16 @@ use Rattle.track9.proofs.Words.{all_has, all_pairs, Deck, modes, motion_forgotte
 use Rattle.track9.proofs.Words.{agreeing, Agrees, all_forgotten, all_or_none, all_states, Allows, and_from, and_parts, ap, AreSet, Becomes, Block, Bool}
 use Rattle.track9.proofs.Words.{both, Change, changed_entries, changed_part, Command, cond_both, counted, Does, DoesOrNot, Drift, drift_from_pairs, drifted}
 use Rattle.track9.proofs.Words.{drifted_part, drifted_with, Effect, effect_of, Entries, entries_of, entry_of, false, false≢true, forgotten_part, all_shown, gone}
-use Rattle.track9.proofs.Words.{gone_pairs, gone_part, has, has-and, has-or, has_pair, HasEffect, if◌then◌else◌, IfSome, in_local, inl, InPart}
+use Rattle.track9.proofs.Words.{either, gone_pairs, gone_part, kept_or_gone, kept_or_gone_part, pairs_of, has, has-and, has-or, has_pair, HasEffect, if◌then◌else◌, IfSome, in_local, inl, InPart}
 use Rattle.track9.proofs.Words.{inr, InHalves, is_as_wanted, part_remains, is_mode, is_mode-same, is_nak, LeadsOn, List, map_halves, masked, masked_part, Mode, mode_self, ModeSet}
 use Rattle.track9.proofs.Words.{no_states, None, Option, or-true, or_cases, Part, Presets, presets_after, put_settled}
 use Rattle.track9.proofs.Words.{refl, refused, RegAudioIn, RegAudioOut, RegIn, Register, RegistersSet, RegOut, reported_part, Sense, sense_of, sensed_part, shown_by, is_own, set_where, settled}
 use Rattle.track9.proofs.Words.{shown_with, ShowsStatus, Some, some_entry, some_mode, some_pair, halves_remain, State, Status, status_of, status_part, DeckStep, Stop, subst, sym, Taken, Tells, time_of, true}
-use Rattle.track9.proofs.Words.{halves_changed, halves_drifted, halves_gone, halves_sensed, halves_status, HalvesBelow, HalvesFew, Halves, HalvesWhole, where_remains, Whole, with_command, with_entries, with_entry}
+use Rattle.track9.proofs.Words.{halves_changed, halves_drifted, halves_gone, halves_kept_or_gone, halves_sensed, halves_status, HalvesBelow, HalvesFew, Halves, HalvesWhole, where_remains, Whole, with_command, with_entries, with_entry}
 use Rattle.track9.proofs.Words.{Rate, rate_in, rate_of, untouched, with_pairs, ℕ, ◌&&◌, ◌||◌, ◌↔◌, ◌∙◌, ◌≡◌, ◌⊎◌}
 use Rattle.deck9.specs.declared.effect.Effect.TheVariants as effect
 use Rattle.deck9.specs.declared.sense.Sense.TheVariants as sense
-use Rattle.track9.proofs.EntryLemmas.{allowed_some, drifted_from, drifted_to, entry_from, entry_stays, entry_to, goes_from, goes_to, pair_by_goal, pairs_some}
+use Rattle.track9.proofs.EntryLemmas.{allowed_some, drifted_from, drifted_to, entry_from, entry_stays, entry_to, goes_from, goes_to, pair_by_goal, pairs_have, pairs_some}
 use Rattle.track9.proofs.EntryLemmas.{set_exactly, some_allowed, tells_exactly}
 use Rattle.track9.proofs.PartLemmas.{a_state, all_exactly, any_entries, Below, drift_below, drift_some, drift_whole, each_register, every_state, few_agreeing, few_all_states}
 use Rattle.track9.proofs.PartLemmas.{few_changed_part, few_counted, few_no_states, few_pairs, few_put, few_set, few_settled, few_halves, FewIn, in_none, in_pairs, mechanics}
@@ -132,6 +132,26 @@ pub halves_live_gone : (may_stay : Bool) (goal : Mode) (h : Halves) → halves_r
 halves_live_gone m goal h = ap (λ b. b || part_remains (where_remains (gone_part true goal) h.local)) (live_gone m goal h.remote)
     ∙ ap (λ b. part_remains h.remote || b) (live_gone true goal h.local)
 
+-- so does one that may lead to some goals
+kept_has : (goals : ModeSet) (p : List ModeSet) (g m : Mode)
+    → has_pair (kept_or_gone goals p) g m ≡ (has_pair p g m || (has goals.0 g && has (all_shown p).0 m))
+kept_has goals p g m = let new = pairs_of goals (all_shown p) in pair_by_goal (λ f. either (shown_with p f) (shown_with new f)) g m
+    ∙ has-or (shown_with p g).0 (shown_with new g).0 m ∙ ap (λ b. has_pair p g m || b) (pairs_have goals (all_shown p) g m)
+
+kept_some : (goals : ModeSet) (p : List ModeSet) → some_pair p ≡ true → some_pair (kept_or_gone goals p) ≡ true
+kept_some goals p some = let m = some_mode (all_shown p) some in let f = goes_from p m.0 m.1 in
+    pairs_some (kept_or_gone goals p) f.0 m.0 (kept_has goals p f.0 m.0 ∙ rw f.1 refl)
+
+live_kept : (goals : ModeSet) (p : Part) → part_remains (where_remains (kept_or_gone_part goals) p) ≡ part_remains p
+live_kept goals p = by (part_remains p) refl
+  where
+    by : (b : Bool) → part_remains p ≡ b → part_remains (if b then kept_or_gone_part goals p else p) ≡ b
+    by true live = kept_some goals p.pairs live
+    by false dead = dead
+
+pub halves_live_kept : (goals : ModeSet) (h : Halves) → halves_remain (halves_kept_or_gone goals h) ≡ halves_remain h
+halves_live_kept goals h = rw (live_kept goals h.remote, live_kept goals h.local) refl
+
 -- and so does what forgets goal and shown mode
 live_moved : (p : Part) → part_remains (where_remains (with_pairs all_pairs) p) ≡ part_remains p
 live_moved p = grind arith
@@ -167,6 +187,30 @@ goal_leads rate Goes may_stay goal p steps whole live = record {
   few = λ l n few. few_pairs n _ p few;
 }
 
+-- the states as they are, and those with one of these goals
+kept_leads : (deck : Option Deck) (rate : Rate) (may_stay : Bool) (goals : ModeSet) (p : Part)
+    → Whole rate p → part_remains p ≡ true → PartLeads rate (DoesOrNot deck rate may_stay (effect.KeepOr goals)) (λ n. n) p (λ l. kept_or_gone_part goals p)
+kept_leads deck rate m goals p whole live = record {
+  from = λ t i.
+      let old = pairs_registers p (kept_or_gone goals p.pairs) t i in
+      elim (or_cases _ _ (sym (kept_has goals p.pairs t.goal t.shown) ∙ i.pair)) [
+        | inl stays ↦ (t, in_pairs p p.pairs t t.goal t.shown old stays, refl, refl, inl (inl refl))
+        | inr new ↦ let w = and_parts _ _ new in let f = goes_from p.pairs t.shown w.1 in
+            (record t { goal = f.0 }, in_pairs p p.pairs t f.0 t.shown old f.1, refl, refl, inl (inr (w.0, refl)))
+      ];
+  to = λ s t i d. elim d [
+    | inl (inl e) ↦ rw e (kept_state s i)
+    | inl (inr (goes, e)) ↦ rw e (in_pairs p (kept_or_gone goals p.pairs) s t.goal s.shown i.registers
+        (kept_has goals p.pairs t.goal s.shown ∙ rw (goes, goes_to p.pairs s.goal s.shown i.pair) (or-true (has_pair p.pairs t.goal s.shown))))
+    | inr (may, stays, e) ↦ rw e (kept_state s i)
+  ];
+  whole = λ l. whole_pairs rate (kept_or_gone goals p.pairs) p whole (kept_some goals p.pairs live ∙ sym live);
+  few = λ l n few. few_pairs n _ p few;
+}
+  where
+    kept_state : (s : State) → InPart p s → InPart (kept_or_gone_part goals p) s
+    kept_state s i = in_pairs p (kept_or_gone goals p.pairs) s s.goal s.shown i.registers (kept_has goals p.pairs s.goal s.shown ∙ rw i.pair refl)
+
 -- ---- effects
 
 -- a part that may have lost its last entry, unless it may also stay
@@ -181,7 +225,7 @@ kept_exactly true p t = (λ i. i, λ i. i)
 -- what an effect makes of a part with states
 abbrev pub part_effect : Bool → Effect → Bool → Part → Part
 part_effect may_stay (effect.Go g) l p = gone_part (l || may_stay) g p
-part_effect may_stay effect.KeepOrStop l p = gone_part (l || true) Stop p
+part_effect may_stay (effect.KeepOr goals) l p = kept_or_gone_part goals p
 part_effect may_stay (effect.Change r c) l p = kept_if l (changed_part (l || may_stay) r c p)
 part_effect may_stay effect.ForgetMotion l p = with_pairs all_pairs p
 part_effect may_stay effect.ForgetTape l p = all_states (rate_of p)
@@ -227,10 +271,7 @@ part_leads : (deck : Option Deck) (rate : Rate) (may_stay : Bool) (e : Effect) (
 part_leads deck rate m (effect.Go g) p by whole live below = goal_leads rate (DoesOrNot deck rate m (effect.Go g)) (λ l. l || m) g p
     (λ s t. (λ d. elim d [ inl e ↦ inl e | inr (may, stays, e) ↦ inr (stays, e) ], λ d. elim d [ inl e ↦ inl e | inr (stays, e) ↦ inr (refl, stays, e) ])) whole
     live
-part_leads deck rate m effect.KeepOrStop p by whole live below = goal_leads rate (DoesOrNot deck rate m effect.KeepOrStop) (λ l. l || true) Stop p (λ s t. (
-  λ d. elim d [ inl (inl e) ↦ inr (or-true s.local, e) | inl (inr e) ↦ inl e | inr (may, stays, e) ↦ inr (or-true s.local, e) ],
-  λ d. elim d [ inl e ↦ inl (inr e) | inr (stays, e) ↦ inl (inl e) ],
-)) whole live
+part_leads deck rate m (effect.KeepOr goals) p by whole live below = kept_leads deck rate m goals p whole live
 part_leads deck rate m (effect.Change r c) p by whole live below =
     let es = entries_of r p in let some = some_allowed es ((whole r).0 ∙ live) in let is : es.rate ≡ rate = (whole r).1 in record {
       from = λ t i.

@@ -6,7 +6,7 @@ use Rattle.track9.proofs.Words.{just_of, nat_lt, Rate, with_time, both_ways, by_
 use Rattle.track9.proofs.Words.{drifted_with, Entries, Entry, eqb-true, every_mode, every_time, false, false_from_ne_true, false≢true, find_mode, goal_if_shown, goals_of, all_shown, halted}
 use Rattle.track9.proofs.Words.{has, has-or, has_pair, if◌then◌else◌, image_from, image_to, inl, inr, is_mode, is_mode-same, is_nil, is_set, is_some, just, just_has}
 use Rattle.track9.proofs.Words.{kept_goal, List, list_any, ltb-true, Mode, mode_self, mode_some, modes, ModeSet, nat_cmp, nat_cmp_total, nat_eq, nat_tests, Next}
-use Rattle.track9.proofs.Words.{next_frame, no_entries, None, not, not-true, Option, or-false, or-true, or_assoc, or_cases, or_left}
+use Rattle.track9.proofs.Words.{next_frame, no_entries, None, not, not-true, Option, or-false, or-true, or_assoc, or_cases, or_left, pairs_of, shown_if}
 use Rattle.track9.proofs.Words.{or_right, PairReaches, Prev, prev_frame, read_given, Recall, refl, Reset, same_test, same_times, set_entries, SetAt, SetSomewhere}
 use Rattle.track9.proofs.Words.{shown_with, Some, some_entry, some_mode, some_pair, Stop, subst, sym, Tells, time_of, given_reads, Times, true, true_from_ne_false, ℕ}
 use Rattle.track9.proofs.Words.{◌&&◌, ◌<◌, ◌||◌, ◌↔◌, ◌∙◌, ◌∷◌, ◌≡◌, ◌⊎◌}
@@ -25,6 +25,11 @@ pair_by_goal f g m = grind arith
 -- a mode may be shown where it is shown with some goal
 goes_any : (p : List ModeSet) (m : Mode) → has (all_shown p).0 m ≡ list_any (λ g. has_pair p g m) every_mode
 goes_any p m = simp (has-or, or_assoc, or-false)
+
+-- each of these goals with each of these modes shown
+pub pairs_have : (goals shown : ModeSet) (g m : Mode) → has_pair (pairs_of goals shown) g m ≡ (has goals.0 g && has shown.0 m)
+pairs_have goals shown g m = pair_by_goal (shown_if goals shown) g m
+    ∙ (elim (has goals.0 g) as (λ b. has (if b then shown else modes 0).0 m ≡ (b && has shown.0 m)) [ true ↦ refl | false ↦ nothing_has m ])
 
 pub goes_from : (p : List ModeSet) (m : Mode) → has (all_shown p).0 m ≡ true → (g : Mode) × (has_pair p g m ≡ true)
 goes_from p m h = find_mode (λ g. has_pair p g m) every_mode (sym (goes_any p m) ∙ h)

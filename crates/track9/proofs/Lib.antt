@@ -9,4 +9,5 @@ pub mod PanelLemmas
 pub mod PartLemmas
 pub mod SenseLemmas
 pub mod StartLemmas
+pub mod TouchLemmas
 pub mod Words

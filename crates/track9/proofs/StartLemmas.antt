@@ -1,12 +1,13 @@
 -- The states that a deck may start from, where some fields are known: exactly those, and what a tracker of them keeps.
-use Rattle.track9.proofs.Words.{Deck}
+use Rattle.track9.proofs.Words.{both, Deck, entries_of, entry_of, goals_of, has-and, HasState, is_some, List, masked, mode_some, Part, Register}
+use Rattle.track9.proofs.EffectLemmas.{masked_has}
 use Rattle.track9.proofs.Words.{Allows, and_from, and_parts, ap, AreBelow, arith, At, begin_count-empty, begin_count-every_time, Bool, Clear}
 use Rattle.track9.proofs.Words.{cond_both, entries_known, Entry, false, false≢true, has, has_pair, if◌then◌else◌, in_local, InPart, is_as_wanted, IsEntry, IsFirst, IsIn}
 use Rattle.track9.proofs.Words.{AreTracked, IsState, Mode, modes, modes_known, ModeSet, no_states, None, nothing_has, Option, pairs_of, part_from, part_known}
 use Rattle.track9.proofs.Words.{Possible, Presets, refl, RegAudioIn, RegAudioOut, RegIn, RegOut, shown_if, Some, Start, StartsFrom, State, states_from}
 use Rattle.track9.proofs.Words.{AreWhole, Rate, rate_for, settled, untouched, subst, sym, true, halves_from, HalvesFew, Whole, ℕ, Is, ◌&&◌, ◌↔◌, ◌∙◌, ◌≡◌}
-use Rattle.track9.proofs.KnownLemmas.{at_same}
-use Rattle.track9.proofs.EntryLemmas.{from_empty, just_is, just_self, pair_by_goal}
+use Rattle.track9.proofs.KnownLemmas.{at_same, goal_to}
+use Rattle.track9.proofs.EntryLemmas.{from_empty, just_is, just_self, pairs_have}
 use Rattle.track9.proofs.PartLemmas.{both_few, each_register, entry_exactly, few_just, few_no_states, few_settled, few_halves, FewIn, FewTimes, in_none, of_rate, OfRate, possible, possible_state, settled_exactly, whole_none, whole_settled, whole_halves}
 
 -- ---- each field
@@ -14,10 +15,6 @@ use Rattle.track9.proofs.PartLemmas.{both_few, each_register, entry_exactly, few
 -- a mode is one of those that are known
 mode_exactly : (o : Option Mode) (m : Mode) → (has (modes_known o).0 m ≡ true) ↔ Is o m
 mode_exactly o m = grind arith
-
-pairs_have : (goals shown : ModeSet) (g m : Mode) → has_pair (pairs_of goals shown) g m ≡ (has goals.0 g && has shown.0 m)
-pairs_have goals shown g m = pair_by_goal (shown_if goals shown) g m
-    ∙ (elim (has goals.0 g) as (λ b. has (if b then shown else modes 0).0 m ≡ (b && has shown.0 m)) [ true ↦ refl | false ↦ nothing_has m ])
 
 -- an entry is as it is known
 entry_is_known : (rate : Rate) (o : Option Entry) (e : Entry) → Allows (entries_known rate o) e → Is o e
@@ -118,3 +115,31 @@ start_exactly deck rate k s below = (
     by_panel : (pn : Bool) → s.panel ≡ pn → IsState rate s → IsIn (if pn then None else Some (halves_from rate k)) s → IsFirst (untouched deck rate) s × StartsFrom k s
     by_panel false off valid i = ((valid, off), from_starts rate k s (subst (λ p. InPart p s) (by_local rate k s.local) i))
     by_panel true on valid i = absurd i
+
+-- ---- some state of which this is known
+
+pub pair_there : (goal shown : Option Mode) (p : List ModeSet) → ((g m : Mode) × (has_pair p g m ≡ true) × Is goal g × Is shown m)
+    → is_some (both (goals_of (masked (modes_known shown) p)) (modes_known goal)) ≡ true
+pair_there goal shown p (g, m, pair, first, second) =
+    let there = masked_has (modes_known shown) p g m ∙ and_from _ _ pair ((mode_exactly shown m).1 second) in
+    mode_some (both (goals_of (masked (modes_known shown) p)) (modes_known goal)) g
+    (has-and (goals_of (masked (modes_known shown) p)).0 (modes_known goal).0 g ∙ and_from _ _ (goal_to (masked (modes_known shown) p) g m there) ((mode_exactly goal g).1 first))
+
+pub pair_parts : (goal shown : Option Mode) (p : List ModeSet) (g m : Mode) → has_pair (masked (modes_known shown) p) g m ≡ true → has (modes_known goal).0 g ≡ true
+    → (has_pair p g m ≡ true) × Is goal g × Is shown m
+pair_parts goal shown p g m h first =
+    let w = and_parts (has_pair p g m) (has (modes_known shown).0 m) (sym (masked_has (modes_known shown) p g m) ∙ h) in
+    (w.0, (mode_exactly goal g).0 first, (mode_exactly shown m).0 w.1)
+
+-- the entry of a register that is known
+abbrev pub entry_known : Register → Start → Option Entry
+entry_known RegIn k = k.ins
+entry_known RegOut k = k.outs
+entry_known RegAudioIn k = k.ains
+entry_known RegAudioOut k = k.aouts
+
+-- there is no state where a register has no such entry
+pub no_entry_known : (r : Register) (p : Part) (k : Start) (l pn : Bool) → (((e : Entry) × Allows (entries_of r p) e × Is (entry_known r k) e) → ⊥)
+    → ((s : State) × HasState p l pn s × StartsFrom k s) → ⊥
+no_entry_known r p k l pn none (s, there, w) =
+    none (entry_of r s, there.inside.registers r, each_register (λ r. Is (entry_known r k) (entry_of r s)) w.ins w.outs w.ains w.aouts r)

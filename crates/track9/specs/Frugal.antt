@@ -15,7 +15,7 @@ use Rattle.deck9.specs.Shows.{shown_by}
 abbrev pub is_frugal_effect : Effect → Bool
 is_frugal_effect effect.Nothing = true
 is_frugal_effect (effect.Go g) = true
-is_frugal_effect effect.KeepOrStop = true
+is_frugal_effect (effect.KeepOr goals) = true
 is_frugal_effect (effect.Panel on) = true
 is_frugal_effect effect.ForgetMotion = true
 is_frugal_effect _ = false

@@ -2,5 +2,6 @@ pub mod Following
 pub mod Frugal
 pub mod Presets
 pub mod Start
+pub mod Touched
 pub mod Tracker
 pub mod Working

@@ -9,3 +9,4 @@ pub mod Pairs
 pub mod Parts
 pub mod Starts
 pub mod States
+pub mod Touched

@@ -6,6 +6,7 @@ ghost use Rattle.track9.specs.Working.Pattern.{Is};
 ghost use Rattle.track9.specs.Working.Knowing.{KnowsOf};
 ghost use Rattle.track9.specs.Working.Starts.{entries_known};
 ghost use Rattle.track9.specs.Working.Entries.{agreeing, all_entries, changed, no_entries, set_entries, some_entry, widened};
+ghost use Rattle.track9.specs.Working.Touched.{touched_entries};
 ghost use Rattle.deck9.specs.declared.state.Entry.{Entry as AEntry};
 
 use deck9::{Change, Entry, KnownEntry};
@@ -82,6 +83,17 @@ impl<S: TimeSet> Entries<S> {
                 times: S::one_at(alloc, rate, *time)?,
             }),
             None => Entries::all(alloc, rate),
+        }
+    }
+
+    /// An equal set where a hand keeps it, and else every entry.
+    pub(crate) fn touched(&self, alloc: Global, keep: bool) -> Result<Entries<S>, AllocError>
+        ensures { IfOk result (λ r. r ≡ touched_entries keep self.now) }
+    {
+        if keep {
+            self.copy()
+        } else {
+            Entries::all(alloc, self.rate())
         }
     }
 

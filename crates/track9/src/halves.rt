@@ -9,13 +9,13 @@ ghost use Rattle.std.specs.Prelude.{◌≡◌, IfOk, OnErr, OnOk, false, max};
 ghost use Rattle.sets25.specs.Times.{BelowDay, span_count};
 ghost use Rattle.track9.specs.Tracker.{entries_of, in_local};
 ghost use Rattle.track9.specs.Working.Starts.{part_from, halves_from};
-ghost use Rattle.track9.specs.Working.States.{HalvesBelow, HalvesWhole, all_forgotten, all_or_none, motion_forgotten, rate_in, registers_forgotten, halves_remain, tape_forgotten, halves_changed, halves_drifted, halves_forgotten, halves_gone, halves_sensed, halves_status};
+ghost use Rattle.track9.specs.Working.States.{HalvesBelow, HalvesWhole, all_forgotten, all_or_none, motion_forgotten, rate_in, registers_forgotten, halves_remain, tape_forgotten, halves_changed, halves_drifted, halves_forgotten, halves_gone, halves_kept_or_gone, halves_sensed, halves_status};
 
 use crate::deck_ref::DeckRef;
 use crate::part::Part;
 use crate::pattern::is_wanted;
 use crate::start::Start;
-use deck9::{Change, Forgotten, Mode, Register, Status};
+use deck9::{Change, Forgotten, Mode, ModeSet, Register, Status};
 use sets25::{SpanSet, TimeSet};
 use std::alloc::{AllocError, Global};
 use std::marker::Model;
@@ -140,6 +140,19 @@ impl<S: TimeSet> Halves<S> {
         let some = self.drift(deck);
         self.remote.go(may_stay, goal);
         self.local.go(true, goal);
+        some
+    }
+
+    /// A drift of the mechanics, and then the deck goes on as it was, or is commanded to one of these modes. It answers whether there is
+    /// a state.
+    #[inline(never)] // as it is rare
+    fn drift_and_keep_or_go(&mut self, deck: &DeckRef, goals: ModeSet) -> bool
+        ensures gone { self.new ≡ halves_kept_or_gone goals (halves_drifted deck.now self.old) }
+        ensures some { result ≡ halves_remain self.new }
+    {
+        let some = self.drift(deck);
+        self.remote.keep_or_go(goals);
+        self.local.keep_or_go(goals);
         some
     }
 

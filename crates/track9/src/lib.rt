@@ -9,6 +9,7 @@ mod deck_ref;
 mod entries;
 mod following;
 mod halves;
+mod kept;
 pub mod laws;
 mod pairs;
 mod part;
@@ -18,5 +19,6 @@ mod start;
 mod states;
 mod tracker;
 
+pub use kept::Kept;
 pub use start::Start;
 pub use tracker::Tracker;

@@ -3,14 +3,15 @@ ghost use Rattle.std.specs.Prelude.{◌≡◌, IfNone, IfSome, true};
 ghost use Rattle.deck9.specs.Drift.{PairReaches};
 ghost use Rattle.deck9.specs.ModeSet.{has};
 ghost use Rattle.track9.specs.Tracker.{has_pair, shown_with};
-ghost use Rattle.track9.specs.Working.Pattern.{IsPairOf, PairRunsTo};
+ghost use Rattle.track9.specs.Working.Pattern.{Is, IsPairOf, PairRunsTo};
+ghost use Rattle.track9.specs.Working.Touched.{touched_pairs};
 ghost use Rattle.deck9.specs.ModeCalls.{is_some};
-ghost use Rattle.track9.specs.Working.Starts.{pairs_of, shown_if};
-ghost use Rattle.track9.specs.Working.Parts.{gone_pairs};
-ghost use Rattle.track9.specs.Working.Pairs.{all_pairs, drifted, drifted_with, all_shown, gone, gone_with, goal_if_shown, goals_of, halted, joined, kept_goal, masked, no_pairs, some_pair};
+ghost use Rattle.track9.specs.Working.Parts.{gone_pairs, kept_or_gone};
+ghost use Rattle.track9.specs.Working.Pairs.{all_pairs, drifted, drifted_with, all_shown, gone, gone_with, goal_if_shown, goals_of, halted, joined, kept_goal, masked, no_pairs, pairs_of, shown_if, some_pair};
 ghost use Rattle.deck9.specs.declared.mode.Mode.{Mode as AMode};
 
 use crate::deck_ref::DeckRef;
+use crate::start::known_modes;
 use deck9::{Mode, ModeSet};
 
 /// The modes that may be shown with each goal, in the order of the modes.
@@ -181,6 +182,23 @@ impl Pairs {
         Some(self.source(deck, goal, reached.shown(goal).first()))
     }
 
+    /// A pair with what is known of goal and shown mode: None exactly where there is none.
+    pub(crate) fn pick(&self, goal: Option<Mode>, shown: Option<Mode>) -> Option<Pair>
+        ensures some { IfSome result (λ p. IsPairOf self.now.0 p × Is goal p.goal × Is shown p.shown) }
+        ensures none { IfNone result (¬ ((g m : AMode) × (has_pair self.now.0 g m ≡ true) × Is goal g × Is shown m)) }
+    {
+        let left = self.masked(known_modes(shown));
+        let goals = left.goals().and(known_modes(goal));
+        if !goals.is_some() {
+            return None;
+        }
+        let goal = goals.first();
+        Some(Pair {
+            goal,
+            shown: left.shown(goal).first(),
+        })
+    }
+
     /// A pair from which a drift of the mechanics reaches this one. There is one.
     fn source(&self, deck: &DeckRef, goal: Mode, shown: Mode) -> Pair
         requires { has (drifted_with deck.now self.now.0 goal).0 shown ≡ true }
@@ -214,6 +232,38 @@ impl Pairs {
         } else {
             *self = Pairs::none();
             self.0[goal.index()] = shown;
+        }
+    }
+
+    /// The pairs as they are, and with each of these goals in place of theirs.
+    pub(crate) fn keep_or_go(&mut self, goals: ModeSet)
+        ensures { self.new.0 ≡ kept_or_gone goals self.old.0 }
+    {
+        let [a, b, c, d, e, f, g, h, i, j] = self.0;
+        let [k, l, m, n, o, p, q, r, s, t] = Pairs::of(goals, self.all_shown()).0;
+        *self = Pairs([
+            a.or(k),
+            b.or(l),
+            c.or(m),
+            d.or(n),
+            e.or(o),
+            f.or(p),
+            g.or(q),
+            h.or(r),
+            i.or(s),
+            j.or(t),
+        ]);
+    }
+
+    /// The pairs after a move of a hand: where it keeps goal or shown mode alone, each of those with any of the other.
+    pub(crate) fn touched(&self, keeps_goal: bool, keeps_shown: bool) -> Pairs
+        ensures { result.0 ≡ touched_pairs keeps_goal keeps_shown self.now.0 }
+    {
+        match (keeps_goal, keeps_shown) {
+            (true, true) => *self,
+            (true, false) => Pairs::of(self.goals(), ModeSet::ALL),
+            (false, true) => Pairs::of(ModeSet::ALL, self.all_shown()),
+            (false, false) => Pairs::all(),
         }
     }
 

@@ -5,16 +5,18 @@ ghost use Rattle.track9.specs.Tracker.{entries_of};
 ghost use Rattle.track9.specs.Working.Entries.{agreeing};
 ghost use Rattle.track9.specs.Working.Knowing.{PartKnows};
 ghost use Rattle.track9.specs.Working.Pairs.{all_pairs};
-ghost use Rattle.track9.specs.Working.Starts.{modes_known, part_known};
-ghost use Rattle.track9.specs.Working.Parts.{Whole, all_states, aside, changed_entries, changed_part, drifted_part, forgotten_part, gone_part, part_remains, no_states, put_settled, rate_of, reported_part, set_part, settled, status_part, where_remains, with_entries, with_pairs};
+ghost use Rattle.track9.specs.Working.Starts.{part_known};
+ghost use Rattle.track9.specs.Working.Parts.{Whole, all_states, aside, changed_entries, changed_part, drifted_part, forgotten_part, gone_part, kept_or_gone_part, part_remains, no_states, put_settled, rate_of, reported_part, set_part, settled, status_part, where_remains, with_entries, with_pairs};
+ghost use Rattle.track9.specs.Working.Touched.{touched_part};
 ghost use Rattle.deck9.specs.declared.state.Register.{Register as ARegister};
 ghost use Rattle.tc25.specs.declared.rate.Rate.{Rate as ARate};
 
 use crate::deck_ref::DeckRef;
 use crate::entries::Entries;
+use crate::kept::Kept;
 use crate::pairs::Pairs;
 use crate::pattern::is_wanted;
-use crate::start::Start;
+use crate::start::{Start, known_modes};
 use deck9::{Change, KnownEntry, Mode, ModeSet, Register, RegistersSet, Status};
 use sets25::{SpanSet, TimeSet};
 use std::alloc::{AllocError, Global};
@@ -210,6 +212,16 @@ impl<S: TimeSet> Part<S> {
         self.pairs.go(may_stay, goal);
     }
 
+    /// The deck goes on as it was, or is commanded to one of these modes.
+    pub(crate) fn keep_or_go(&mut self, goals: ModeSet)
+        ensures { self.new ≡ where_remains (kept_or_gone_part goals) self.old }
+    {
+        if !self.remains() {
+            return;
+        }
+        self.pairs.keep_or_go(goals);
+    }
+
     /// The entries of a register after a change, with those before it where the deck may also ignore it, in a set of their
     /// own: None where there is no state.
     pub(crate) fn change_aside(
@@ -289,6 +301,22 @@ impl<S: TimeSet> Part<S> {
         Part::with_any_entries(alloc, self.rate(), self.pairs)
     }
 
+    /// The states after a move of a hand that keeps these fields, whatever their local.
+    pub(crate) fn touched(&self, alloc: Global, kept: &Kept) -> Result<Part<S>, AllocError>
+        ensures { IfOk result (λ p. p ≡ where_remains (touched_part kept.now) self.now) }
+    {
+        if !self.remains() {
+            return self.copy();
+        }
+        Ok(Part {
+            pairs: self.pairs.touched(kept.goal, kept.shown),
+            ins: self.ins.touched(alloc, kept.ins)?,
+            outs: self.outs.touched(alloc, kept.outs)?,
+            ains: self.ains.touched(alloc, kept.ains)?,
+            aouts: self.aouts.touched(alloc, kept.aouts)?,
+        })
+    }
+
     /// Puts a register's entries in place that were made aside, and leaves no state where they are none.
     pub(crate) fn put_settled(
         &mut self,
@@ -360,16 +388,6 @@ impl<S: TimeSet> Part<S> {
         self.outs.keep_set(alloc, set.outs);
         self.ains.keep_set(alloc, set.ains);
         self.aouts.keep_set(alloc, set.aouts);
-    }
-}
-
-/// The mode that is known, or every one where none is.
-fn known_modes(known: Option<Mode>) -> ModeSet
-    ensures { result ≡ modes_known known }
-{
-    match known {
-        Some(mode) => ModeSet::just(mode),
-        None => ModeSet::ALL,
     }
 }
 

@@ -2,7 +2,7 @@
 ghost use Rattle.std.specs.Prelude.{◌≡◌, ◌↔◌, IsTrue};
 ghost use Rattle.track9.specs.Working.Pattern.{Is, any_motion, any_registers, any_tape, pattern_before, entry_before, is_as_wanted, just_state, with_wanted};
 
-use deck9::{Change, Effect, Entry, Hands, Mode, ModeSet, Register, State};
+use deck9::{Change, Effect, Entry, Hands, ModeSet, Register, State};
 use tc25::Rate;
 
 /// The states with one of these goals, one of these modes shown, and in each other field the value that is wanted, or
@@ -54,8 +54,8 @@ impl Pattern {
                 }
                 wanted.goals = ModeSet::ALL;
             }
-            Effect::KeepOrStop => {
-                if target.goal == Mode::Stop {
+            Effect::KeepOr(goals) => {
+                if goals.has(target.goal) {
                     wanted.goals = ModeSet::ALL;
                 }
             }

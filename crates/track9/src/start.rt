@@ -1,9 +1,13 @@
 //! What a deck may start from, where some of it is known.
 
-use deck9::{Entry, Mode};
+ghost use Rattle.std.specs.Prelude.{◌≡◌};
+ghost use Rattle.track9.specs.Working.Starts.{modes_known};
 
-/// What is known of the state that a deck starts from: a field that is `None` may be anything.
-#[derive(Clone, Copy, Debug, PartialEq, Eq)]
+use deck9::{Entry, Mode, ModeSet};
+
+/// What is known of the state that a deck starts from: a field that is `None` may be anything. By default
+/// nothing is known.
+#[derive(Clone, Copy, Debug, Default, PartialEq, Eq)]
 pub struct Start {
     /// The commanded mode.
     pub goal: Option<Mode>,
@@ -19,4 +23,14 @@ pub struct Start {
     pub aouts: Option<Entry>,
     /// Whether the deck is in LOCAL.
     pub local: Option<bool>,
+}
+
+/// The mode that is known, or every one where none is.
+pub(crate) fn known_modes(known: Option<Mode>) -> ModeSet
+    ensures { result ≡ modes_known known }
+{
+    match known {
+        Some(mode) => ModeSet::just(mode),
+        None => ModeSet::ALL,
+    }
 }

@@ -28,6 +28,7 @@ mod boxed;
 mod forgetting;
 mod knowing;
 mod member;
+mod touched;
 
 /// The states in which the deck may be: with the panel off, and, where hands are allowed, with the panel on.
 #[derive(Drop)]

@@ -10,12 +10,14 @@ ghost use Rattle.deck9.specs.Effect.{effect_of};
 ghost use Rattle.deck9.specs.State.{IsFirst};
 ghost use Rattle.deck9.specs.Step.{AreReached, Exchanges};
 ghost use Rattle.track9.specs.Start.{StartsFrom};
+ghost use Rattle.track9.specs.Touched.{Touches};
 ghost use Rattle.track9.specs.Tracker.{Possible};
 ghost use Rattle.deck9.specs.declared.mode.Mode.{Mode as AMode};
 ghost use Rattle.deck9.specs.declared.state.Register.{Register as ARegister};
 ghost use Rattle.deck9.specs.declared.state.State.{State as AState};
 
 use crate::deck_ref::DeckRef;
+use crate::kept::Kept;
 use crate::presets::Presets;
 use crate::start::Start;
 use crate::states::States;
@@ -178,6 +180,29 @@ impl<'a, S: TimeSet> Tracker<'a, S> {
         Ok(())
     }
 
+    /// The tracker behind a move of a hand that keeps these fields: of the same profile and presets.
+    ///
+    /// The states are then exactly those to which such a move leads from a state before. What it leaves is in
+    /// `specs/Touched.antt`: each kept field is as it was, LOCAL is the other way where it is not kept, and each other field may be
+    /// anything.
+    ///
+    /// An error comes where memory is refused. This tracker stays as it is, either way.
+    pub fn touched(&self, kept: &Kept) -> Result<Self, AllocError>
+        ensures reached { IfOk result (λ t. AreReached (Possible self.now.states) (Touches self.now.profile.rate kept.now) (Possible t.states)) }
+        ensures profile { IfOk result (λ t. t.profile ≡ self.now.profile) }
+        ensures presets { IfOk result (λ t. t.presets ≡ self.now.presets) }
+    {
+        self.states.below_day();
+        let states = self.states.touched(self.alloc, kept)?;
+        let (presets, deck) = (self.presets.copy(), self.deck.copy());
+        Ok(Tracker {
+            states,
+            presets,
+            deck,
+            alloc: self.alloc,
+        })
+    }
+
     /// Whether a state is possible. Takes no memory.
     pub fn remains(&self) -> bool
         ensures { IsTrue result ↔ ((s : AState) × Possible self.now.states s) }
@@ -206,6 +231,24 @@ impl<'a, S: TimeSet> Tracker<'a, S> {
         ensures none { IfNone result (¬ ((s : AState) × Possible self.now.states s)) }
     {
         self.states.member()
+    }
+
+    /// Some possible state of which this is known, or `None` exactly where none is possible. Which one it is of several is not
+    /// said. Takes no memory.
+    pub fn member_with(&self, start: &Start) -> Option<State>
+        ensures some { IfSome result (λ s. Possible self.now.states s × StartsFrom start.now s) }
+        ensures none { IfNone result (¬ ((s : AState) × Possible self.now.states s × StartsFrom start.now s)) }
+    {
+        self.states.member_with(start)
+    }
+
+    /// A possible state from which a drift alone leads to the target, or `None` exactly where there is none. Which one it is of
+    /// several is not said. Takes no memory.
+    pub fn before_drift(&self, target: &State) -> Option<State>
+        ensures some { IfSome result (λ s. Possible self.now.states s × Drift self.now.profile s target.now) }
+        ensures none { IfNone result (¬ ((s : AState) × Possible self.now.states s × Drift self.now.profile s target.now)) }
+    {
+        self.states.before_drift(&self.deck, target)
     }
 
     /// A possible state from which a drift and a step of the deck, with this reply to this command, lead to the target, or

@@ -125,17 +125,24 @@ impl Changes {
     }
 }
 
-/// Puts changes, with times at this rate.
-pub fn put_changes(line: &mut Vec<u8>, changes: &[Change], rate: Rate) -> Result<(), AllocError> {
-    for change in changes {
-        put_word(line, ", ", change.field.name())?;
-        put_text(line, ": ")?;
-        change.from.put(line, rate)?;
-        if change.is_forgotten && change.from.is_known() {
+impl Change {
+    /// Puts it, with times at this rate.
+    pub(crate) fn put(&self, line: &mut Vec<u8>, rate: Rate) -> Result<(), AllocError> {
+        put_word(line, self.field.name(), ": ")?;
+        self.from.put(line, rate)?;
+        if self.is_forgotten && self.from.is_known() {
             put_text(line, ", unknown")?;
         }
         put_text(line, " => ")?;
-        change.to.put(line, rate)?;
+        self.to.put(line, rate)
+    }
+}
+
+/// Puts changes, with times at this rate.
+pub fn put_changes(line: &mut Vec<u8>, changes: &[Change], rate: Rate) -> Result<(), AllocError> {
+    for change in changes {
+        put_text(line, ", ")?;
+        change.put(line, rate)?;
     }
     Ok(())
 }

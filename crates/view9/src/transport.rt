@@ -92,7 +92,7 @@ impl<'a> Transport<'a> {
         let called = Called::of(profile, seen.exchange);
         let mode = match (Deck::effect(None, command), called) {
             (Effect::Go(mode), _) => Some(mode),
-            (Effect::KeepOrStop, _) => None,
+            (Effect::KeepOr(_), _) => None,
             (_, Called::Head(head)) if head / 0x10_00 == 2 => None,
             _ => return None,
         };

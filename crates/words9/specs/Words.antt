@@ -11,6 +11,7 @@ use Rattle.clap.specs.declared.builder.value_parser.ValueParser.TheVariants as p
 use Rattle.clap.specs.declared.error.kind.ErrorKind.TheVariants.{DisplayVersion}
 use Rattle.tc25.specs.declared.rate.Rate.{Rate}
 use Rattle.tc25.specs.declared.rate.Rate.TheVariants as rate
+use Rattle.deck9.specs.declared.state.Hands.{Hands}
 use Rattle.deck9.specs.declared.state.Hands.TheVariants as hands
 use Rattle.report9.specs.declared.detail.Detail.{Detail}
 use Rattle.report9.specs.declared.detail.Detail.TheVariants.{Bytes, Names}
@@ -27,7 +28,7 @@ use Rattle.words9.specs.declared.task.Export.TheVariants as export
 use Rattle.words9.specs.declared.task.ExportWords.{ExportWords}
 use Rattle.words9.specs.declared.task.Report.{Report}
 use Rattle.words9.specs.declared.task.Made.TheVariants as made
-use Rattle.words9.specs.declared.task.Report.TheVariants.{Clock, Convert, Info, JsonRun, Made, Page, Parts, Picture, Run, Split, ToBreak, Try}
+use Rattle.words9.specs.declared.task.Report.TheVariants.{Clock, Convert, Info, JsonRun, Made, Page, Parts, Picture, Run, Split, ToBreak, Touches, Try}
 use Rattle.words9.specs.declared.task.Task.{Task}
 use Rattle.report9.specs.declared.time_form.TimeForm.{TimeForm}
 use Rattle.report9.specs.declared.time_form.TimeForm.TheVariants as form
@@ -103,7 +104,11 @@ at_rule = record (new_rule (codes "at")) { long = Some (codes "at"); value_names
 abbrev pub width_rule : Rule
 width_rule = record (new_rule (codes "width")) { long = Some (codes "width"); value_names = 1 }
 
--- an option that is there or not, which `clock` alone has
+-- an option that is there or not, which `why` alone has
+abbrev pub quiet_rule : Rule
+quiet_rule = record (new_rule (codes "quiet")) { long = Some (codes "quiet"); action = Some SetTrue }
+
+-- the same of `clock`
 abbrev pub seconds_rule : Rule
 seconds_rule = record (new_rule (codes "seconds")) { long = Some (codes "seconds"); action = Some SetTrue }
 
@@ -164,6 +169,7 @@ name_of verb.JsonWhy = codes "json why"
 name_of verb.Clock = codes "clock"
 name_of verb.Info = codes "info"
 name_of verb.Try = codes "try"
+name_of verb.Touches = codes "touches"
 name_of verb.Picture = codes "picture"
 name_of verb.Page = codes "page"
 name_of verb.ConvertSigrok = codes "convert sigrok"
@@ -171,7 +177,7 @@ name_of verb.ConvertSaleae = codes "convert saleae"
 name_of verb.ConvertLog = codes "convert log"
 name_of verb.Split = codes "split"
 
--- what each subcommand has that judges, but `try`: the word of its verb, and then the file and the options of the panel, of the capture's
+-- what each subcommand has that judges, but `try` and `touches`: the word of its verb, and then the file and the options of the panel, of the capture's
 -- beginning, of the rate and of the deck's sheet
 abbrev pub plain_app_for : RateNames → Verb → App
 plain_app_for names verb =
@@ -182,6 +188,9 @@ with_bytes_rule app = with_rule app bytes_rule
 
 abbrev pub with_all_rules : App → App
 with_all_rules app = with_rule (with_rule app all_rule) line_buffered_rule
+
+abbrev pub with_quiet_rule : App → App
+with_quiet_rule app = with_rule app quiet_rule
 
 abbrev pub with_stretch_rules : App → App
 with_stretch_rules app = with_rule (with_rule app from_rule) to_rule
@@ -195,9 +204,12 @@ clock_app = with_rule (with_rule (new_app (name_of verb.Clock)) file_rule) secon
 abbrev pub info_app_for : RateNames → App
 info_app_for names = with_rule (with_rule (with_rule (new_app (name_of verb.Info)) file_rule) sync_rule) (rate_rule names)
 
+-- what each has that is not told whether somebody may have touched the panel: the same without the option of it
+abbrev pub handless_app_for : RateNames → Verb → App
+handless_app_for names verb = with_rule (with_rule (with_rule (with_rule (new_app (name_of verb)) file_rule) sync_rule) (rate_rule names)) deck_rule
+
 abbrev pub try_app_for : RateNames → App
-try_app_for names =
-    with_rule (with_rule (with_rule (with_rule (with_rule (new_app (name_of verb.Try)) file_rule) sync_rule) (rate_rule names)) deck_rule) all_rule
+try_app_for names = with_rule (handless_app_for names verb.Try) all_rule
 
 -- a subcommand that makes a capture of an export, or that cuts one: the word of its verb, and then the file
 abbrev pub file_app_for : Verb → App
@@ -226,7 +238,7 @@ abbrev pub app_for : RateNames → Verb → App
 app_for names verb.Check = with_all_rules (plain_app_for names verb.Check)
 app_for names verb.Explain = with_all_rules (with_bytes_rule (plain_app_for names verb.Explain))
 app_for names verb.Run = plain_app_for names verb.Run
-app_for names verb.Why = with_all_rules (plain_app_for names verb.Why)
+app_for names verb.Why = with_quiet_rule (with_all_rules (plain_app_for names verb.Why))
 app_for names verb.Digest = with_stretch_rules (with_all_rules (with_bytes_rule (plain_app_for names verb.Digest)))
 app_for names verb.Delays = with_stretch_rules (with_all_rules (with_bytes_rule (plain_app_for names verb.Delays)))
 app_for names verb.Motion = with_stretch_rules (with_all_rules (with_bytes_rule (plain_app_for names verb.Motion)))
@@ -238,6 +250,7 @@ app_for names verb.JsonWhy = with_stretch_rules (with_all_rules (plain_app_for n
 app_for names verb.Clock = clock_app
 app_for names verb.Info = info_app_for names
 app_for names verb.Try = try_app_for names
+app_for names verb.Touches = handless_app_for names verb.Touches
 app_for names verb.Picture = with_picture_rules (with_all_rules (plain_app_for names verb.Picture))
 app_for names verb.Page = with_stretch_rules (with_all_rules (with_bytes_rule (plain_app_for names verb.Page)))
 app_for names verb.ConvertSigrok = sigrok_app
@@ -260,7 +273,7 @@ with_verb names app verb = with_subcommand app (app_for names verb).top
 abbrev pub program : RateNames → App
 program names =
     fold (with_verb names) top
-    (verb.Check ∷ verb.Explain ∷ verb.Run ∷ verb.Why ∷ verb.Digest ∷ verb.Delays ∷ verb.Motion ∷ verb.Json ∷ verb.JsonCheck ∷ verb.JsonExplain ∷ verb.JsonRun ∷ verb.JsonWhy ∷ verb.Clock ∷ verb.Info ∷ verb.Try ∷ verb.Picture ∷ verb.Page ∷ verb.ConvertSigrok ∷ verb.ConvertSaleae ∷ verb.ConvertLog ∷ verb.Split ∷ [])
+    (verb.Check ∷ verb.Explain ∷ verb.Run ∷ verb.Why ∷ verb.Digest ∷ verb.Delays ∷ verb.Motion ∷ verb.Json ∷ verb.JsonCheck ∷ verb.JsonExplain ∷ verb.JsonRun ∷ verb.JsonWhy ∷ verb.Clock ∷ verb.Info ∷ verb.Try ∷ verb.Touches ∷ verb.Picture ∷ verb.Page ∷ verb.ConvertSigrok ∷ verb.ConvertSaleae ∷ verb.ConvertLog ∷ verb.Split ∷ [])
 
 -- a report that `json` can be asked for
 abbrev pub is_asked : Text → Bool
@@ -325,6 +338,7 @@ report_of verb.JsonWhy all bytes seconds = Made (made.Json view.Why) (extent_of 
 report_of verb.Clock all bytes seconds = Clock (form_of seconds)
 report_of verb.Info all bytes seconds = Info
 report_of verb.Try all bytes seconds = Try (extent_of all)
+report_of verb.Touches all bytes seconds = Touches
 report_of verb.Picture all bytes seconds = Picture (extent_of all)
 report_of verb.Page all bytes seconds = Page
 report_of verb.ConvertSigrok all bytes seconds = Convert export.Sigrok
@@ -336,6 +350,12 @@ report_of verb.Split all bytes seconds = Split
 abbrev pub beginning_of : Bool → Beginning
 beginning_of true = FirstCommand
 beginning_of false = FirstRecord
+
+-- whether somebody may have touched the panel, where the words say `--hands` or not: of `touches`, which asks where, always
+abbrev pub hands_of : Verb → Bool → Hands
+hands_of verb.Touches given = hands.Allowed
+hands_of _ true = hands.Allowed
+hands_of _ false = hands.None
 
 -- an option is among these rows
 abbrev pub has : Text → List Row → Bool
@@ -349,6 +369,7 @@ asked_of verb rows stretch drawing = record {
   stretch = stretch;
   drawing = drawing;
   line_buffered = has (codes "line-buffered") rows;
+  quiet = has (codes "quiet") rows;
 }
 
 -- where no option names a time, all of the capture is shown
@@ -382,7 +403,7 @@ pub record GivesTask (names : RateNames) (words : List Text) (task : Task) : Typ
   pub drawing : IsDrawingOf rows task.asked.drawing
   pub file : option_map string_bytes task.file ≡ first_of (codes "FILE") rows
   pub rate : task.rate ≡ rate_of (first_of (codes "rate") rows)
-  pub hands : task.hands ≡ (if has (codes "hands") rows then hands.Allowed else hands.None)
+  pub hands : task.hands ≡ hands_of verb (has (codes "hands") rows)
   pub deck : option_map string_bytes task.deck ≡ first_of (codes "deck") rows
   pub export : IsExportOf rows task.export
 

@@ -8,12 +8,14 @@
 #![tactic(auto)]
 
 mod exports;
+mod hint;
 mod task;
 mod times;
 mod usage;
 mod verbs;
 mod words;
 
+pub use hint::rate_hint;
 pub use task::{
     Asked, Drawing, Export, ExportWords, Made, NoValue, Report, Task, VERSION_LINE, Verb,
     WordsFault,

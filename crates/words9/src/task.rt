@@ -42,6 +42,8 @@ pub enum Verb {
     Info,
     /// Asks with each rate, without hands and with, and with a sheet: `try`.
     Try,
+    /// Tells where somebody must have touched the panel: `touches`.
+    Touches,
     /// Draws the record that breaks a rule: `picture`.
     Picture,
     /// Makes a page of the whole session: `page`.
@@ -100,6 +102,8 @@ pub enum Report {
     /// The verdict or the totals of each judging with one of the rates, that of the task first, without hands and with, and without
     /// the sheet and with it, where there is one. Each goes so far.
     Try(Extent),
+    /// Where somebody must have touched the panel, of a judging that ends at the first break.
+    Touches,
     /// A picture of a break, of a judging that goes so far.
     Picture(Extent),
     /// A page of the whole session. The judging goes on after each break.
@@ -132,6 +136,8 @@ pub struct Asked {
     pub drawing: Drawing,
     /// Whether each line is handed on as soon as it is complete.
     pub line_buffered: bool,
+    /// Whether `why` says nothing of what to ask next.
+    pub quiet: bool,
 }
 
 /// What the words of an export or of a split say, as they stand; what each may be is judged where it is read.

@@ -3,7 +3,7 @@ ghost use Rattle.std.specs.Prelude.{◌≡◌, IfOk, false, map};
 ghost use Rattle.std.specs.String.{string_bytes};
 ghost use Rattle.clap.specs.Words.{FailsBy, app_of, fault_of, rule_of, subcommand_of, subcommand_rows_of, with_subcommand};
 ghost use Rattle.clap.specs.declared.builder.command.Command.TheViews.{out-Command as fields_of};
-ghost use Rattle.words9.specs.Words.{AreRateNames, all_rule, app_for, at_rule, bytes_rule, clock_app, deck_rule, file_rule, from_rule, hands_rule, info_app_for, line_buffered_rule, plain_app_for, program, rate_rule, seconds_rule, sync_rule, to_rule, top, try_app_for, width_rule, with_all_rules, with_bytes_rule, with_picture_rules, with_stretch_rules};
+ghost use Rattle.words9.specs.Words.{AreRateNames, all_rule, app_for, at_rule, bytes_rule, clock_app, deck_rule, file_rule, from_rule, handless_app_for, hands_rule, info_app_for, line_buffered_rule, plain_app_for, program, quiet_rule, rate_rule, seconds_rule, sync_rule, to_rule, top, try_app_for, width_rule, with_all_rules, with_bytes_rule, with_picture_rules, with_quiet_rule, with_stretch_rules};
 
 use crate::exports::{log, saleae, sigrok, split};
 use crate::task::{VERSION_LINE, Verb};
@@ -55,6 +55,7 @@ fn whole<'a>(alloc: Global, rates: &'a [&'a str]) -> Result<Command<'a>, AllocEr
     let command = with_verb(alloc, command, Verb::Clock, rates)?;
     let command = with_verb(alloc, command, Verb::Info, rates)?;
     let command = with_verb(alloc, command, Verb::Try, rates)?;
+    let command = with_verb(alloc, command, Verb::Touches, rates)?;
     let command = with_verb(alloc, command, Verb::Picture, rates)?;
     let command = with_verb(alloc, command, Verb::Page, rates)?;
     let command = with_verb(alloc, command, Verb::ConvertSigrok, rates)?;
@@ -101,6 +102,7 @@ fn subcommand<'a>(
         Verb::Clock => return clock(alloc),
         Verb::Info => return info(alloc, rates),
         Verb::Try => return asks_each(alloc, rates),
+        Verb::Touches => return without_hands(alloc, verb, rates),
         Verb::ConvertSigrok => return sigrok(alloc),
         Verb::ConvertSaleae => return saleae(alloc),
         Verb::ConvertLog => return log(alloc),
@@ -110,9 +112,10 @@ fn subcommand<'a>(
     let command = plain_subcommand(alloc, verb, rates)?;
     match verb {
         Verb::Run | Verb::JsonRun => Ok(command),
-        Verb::Clock | Verb::Info | Verb::Try => Ok(command),
+        Verb::Clock | Verb::Info | Verb::Try | Verb::Touches => Ok(command),
         Verb::ConvertSigrok | Verb::ConvertSaleae | Verb::ConvertLog | Verb::Split => Ok(command),
-        Verb::Check | Verb::Why => with_all(alloc, command),
+        Verb::Check => with_all(alloc, command),
+        Verb::Why => with_quiet(alloc, with_all(alloc, command)?),
         Verb::JsonCheck | Verb::JsonWhy => with_stretch(alloc, with_all(alloc, command)?),
         Verb::Picture => with_picture(alloc, with_all(alloc, command)?),
         Verb::Explain => with_all(alloc, with_bytes(alloc, command)?),
@@ -138,6 +141,14 @@ fn with_all<'a>(alloc: Global, command: Command<'a>) -> Result<Command<'a>, Allo
     ensures local { (fields_of command.entry).has_globals ≡ false → IfOk result (λ c. (fields_of c).has_globals ≡ false) }
 {
     command.arg(all(alloc))?.arg(line_buffered(alloc))
+}
+
+/// The same command with the option that says nothing of what to ask next.
+fn with_quiet<'a>(alloc: Global, command: Command<'a>) -> Result<Command<'a>, AllocError>
+    ensures app { IfOk result (λ c. app_of c ≡ with_quiet_rule (app_of command.entry)) }
+    ensures local { (fields_of command.entry).has_globals ≡ false → IfOk result (λ c. (fields_of c).has_globals ≡ false) }
+{
+    command.arg(quiet(alloc))
 }
 
 /// The same command with the options of the stretch that is shown.
@@ -185,13 +196,26 @@ fn asks_each<'a>(alloc: Global, rates: &'a [&'a str]) -> Result<Command<'a>, All
     ensures app { IfOk result (λ c. app_of c ≡ try_app_for rates.entry) }
     ensures local { IfOk result (λ c. (fields_of c).has_globals ≡ false) }
 {
-    let command = Command::new(alloc, name_of(Verb::Try)).about(about(Verb::Try));
+    let command = without_hands(alloc, Verb::Try, rates)?;
+    command.arg(all(alloc))
+}
+
+/// A subcommand that is not told whether somebody may have touched the panel: its file, and the options of the capture's beginning, of
+/// the rate and of the deck's sheet.
+fn without_hands<'a>(
+    alloc: Global,
+    verb: Verb,
+    rates: &'a [&'a str],
+) -> Result<Command<'a>, AllocError>
+    ensures app { IfOk result (λ c. app_of c ≡ handless_app_for rates.entry verb) }
+    ensures local { IfOk result (λ c. (fields_of c).has_globals ≡ false) }
+{
+    let command = Command::new(alloc, name_of(verb)).about(about(verb));
     let command = command
         .arg(capture_file(alloc))?
         .arg(sync(alloc))?
         .arg(rate(alloc, rates))?
-        .arg(deck(alloc))?
-        .arg(all(alloc))?;
+        .arg(deck(alloc))?;
     Ok(command)
 }
 
@@ -327,6 +351,17 @@ fn line_buffered<'a>(alloc: Global) -> Arg<'a>
         .long("line-buffered")
         .action(ArgAction::SetTrue)
         .help("Write each line as soon as it is complete, to watch a capture while it grows")
+}
+
+/// The option that says nothing of what to ask next.
+fn quiet<'a>(alloc: Global) -> Arg<'a>
+    ensures rule { rule_of result ≡ quiet_rule }
+    ensures local { result.global ≡ false }
+{
+    Arg::new(alloc, "quiet")
+        .long("quiet")
+        .action(ArgAction::SetTrue)
+        .help("Without the line on standard error that says what to ask next")
 }
 
 /// The option of the first time that is shown.

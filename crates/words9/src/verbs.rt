@@ -24,6 +24,7 @@ pub(crate) fn name_of<'a>(verb: Verb) -> &'a str
         Verb::Clock => "clock",
         Verb::Info => "info",
         Verb::Try => "try",
+        Verb::Touches => "touches",
         Verb::Picture => "picture",
         Verb::Page => "page",
         Verb::ConvertSigrok => "convert sigrok",
@@ -60,6 +61,8 @@ pub(crate) fn about<'a>(verb: Verb) -> &'a str {
             "Tell what the capture says of itself, and what to look at before anybody is blamed; nothing is judged",
         Verb::Try =>
             "Judge the capture at each frame rate, without hands and with, and with a sheet: a line for each",
+        Verb::Touches =>
+            "Tell where somebody must have touched the deck's front panel, as seldom as possible, and what changed",
         Verb::Picture =>
             "Draw the record that breaks a rule, or the replies that contradict one another, as an SVG",
         Verb::Page => "Make one page of the whole session (HTML), to look at and to send on",

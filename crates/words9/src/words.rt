@@ -3,7 +3,7 @@ ghost use Rattle.std.specs.Prelude.{◌≡◌, ◌≢◌, IfOk, MatchOption, Opt
 ghost use Rattle.std.specs.String.{string_bytes};
 ghost use Rattle.clap.specs.Words.{first_of, found_of, kind_of, rows_of};
 ghost use Rattle.clap.specs.declared.error.Error.{Error as ClapError};
-ghost use Rattle.words9.specs.Words.{AsksVersion, IsNoTask, IsDrawingOf, IsExportOf, IsStretchOf, IsTaskOf, MayAskVersion, asked_of, beginning_of, extent_of, is_asked, is_export, is_on, is_pair, joined, name_of, rate_named, rate_of, report_of, shown};
+ghost use Rattle.words9.specs.Words.{AsksVersion, IsNoTask, IsDrawingOf, IsExportOf, IsStretchOf, IsTaskOf, MayAskVersion, asked_of, beginning_of, extent_of, hands_of, is_asked, is_export, is_on, is_pair, joined, name_of, rate_named, rate_of, report_of, shown};
 
 use crate::task::{
     Asked, Drawing, Export, ExportWords, Made, NoValue, Report, Task, Verb, WordsFault,
@@ -26,8 +26,8 @@ use tc25::Rate;
 /// as in `--from=-1.5`.
 ///
 /// * `Ok(task)` only where the definition takes the words. The task asks for the report of the subcommand and its options, and has
-///   the file and the options that the definition gives for the words, and 25 frames a second where they name no rate. Of the
-///   options of an export or of a split it has the values as they stand: none of them is judged here, and none has to be there.
+///   the file and the options that the definition gives for the words, and 25 frames a second where they name no rate; `touches` allows
+///   hands. Of the options of an export or of a split it has the values as they stand: none of them is judged here, and none has to be there.
 /// * `Err(Usage)` only where it does not take them, and they are not those that ask for the version. Words that ask for
 ///   help are not taken.
 /// * `Err(Version)` only where they ask for the version, and that is, or may be, the first thing that stops the definition.
@@ -78,11 +78,7 @@ fn read_joined(alloc: Global, words: &[String]) -> Result<Task, WordsFault>
     let Ok(export) = export_of(alloc, found) else {
         return Err(WordsFault::NoMemory);
     };
-    let hands = if is_given(found, "hands") {
-        Hands::Allowed
-    } else {
-        Hands::None
-    };
+    let hands = hands_of(verb, is_given(found, "hands"));
     let rate = rate_of(found);
     let asked = asked_of(verb, found, stretch, drawing);
     Ok(Task {
@@ -236,6 +232,7 @@ fn asked_of(verb: Verb, found: &ArgMatches<'_>, stretch: Stretch, drawing: Drawi
         stretch,
         drawing,
         line_buffered: is_given(found, "line-buffered"),
+        quiet: is_given(found, "quiet"),
     }
 }
 
@@ -260,6 +257,7 @@ fn report_of(verb: Verb, all: bool, bytes: bool, seconds: bool) -> Report
         Verb::Clock => Report::Clock(TimeForm::Clock),
         Verb::Info => Report::Info,
         Verb::Try => Report::Try(extent_of(all)),
+        Verb::Touches => Report::Touches,
         Verb::Picture => Report::Picture(extent_of(all)),
         Verb::Page => Report::Page,
         Verb::ConvertSigrok => Report::Convert(Export::Sigrok),
@@ -302,6 +300,17 @@ fn beginning_of(sync: bool) -> Beginning
     }
 }
 
+/// Whether somebody may have touched the panel: where the words say `--hands`, and always with `touches`, which asks where.
+fn hands_of(verb: Verb, given: bool) -> Hands
+    ensures { result ≡ hands_of verb given }
+{
+    match verb {
+        Verb::Touches => Hands::Allowed,
+        _ if given => Hands::Allowed,
+        _ => Hands::None,
+    }
+}
+
 /// The fault of words that `clap` refuses.
 fn fault_of(e: Error) -> WordsFault
     ensures usage { (o : Option ClapError) → result ≡ WordsFault.Usage o
@@ -335,6 +344,7 @@ fn verb_of(name: &str) -> Option<Verb>
         "clock" => Some(Verb::Clock),
         "info" => Some(Verb::Info),
         "try" => Some(Verb::Try),
+        "touches" => Some(Verb::Touches),
         "picture" => Some(Verb::Picture),
         "page" => Some(Verb::Page),
         "convert sigrok" => Some(Verb::ConvertSigrok),

@@ -9,11 +9,11 @@ cd "$(dirname "$0")/../../.." || exit 1
 . tests/lib/tools.sh
 need_tools cc=gcc
 . tests/lib/judge.sh
-. tests/lib/growths.sh
 . tests/lib/workspace.sh
 
 build_over 'tc25 sets25' sets25_drawn tests/by_hand/time_sets/main.rattle
 rustc --edition 2024 -O -o "$work/plain" tests/by_hand/time_sets/plain.rs || exit 1
+cc -shared -fPIC -O2 -o "$work/refuse_growth.so" tests/program/refuse_growth.c -ldl || exit 1
 
 # is_as_plain: the program ended well, and shows what the plain list shows.
 is_as_plain() {
@@ -35,13 +35,18 @@ is_few() {
     esac
 }
 
-# Growth 0 is none.
-refusing 0 "$program" few
+# refusing N: 200 calls with growth N refused, or none where N is 0.
+refusing() {
+    GROWTHS="$work/count" FAIL_AT=$1 LD_PRELOAD="$work/refuse_growth.so" "$program" few > "$work/out" 2> "$work/err"
+    status=$?
+}
+
+refusing 0
 cp "$work/out" "$work/few"
-growths=$count
+growths=$(cat "$work/count")
 before=0
 for ((growth = 0; growth <= growths; growth++)); do
-    refusing $growth "$program" few
+    refusing $growth
     judge "growth $growth refused" is_few
 done
 echo "200 calls with each of $growths growths refused, $before of them before the calls"

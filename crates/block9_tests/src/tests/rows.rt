@@ -1,4 +1,4 @@
-//! Readers and what is read of them, by hand. Which texts can be read is in `tests/program.sh` and `tests/cases/`.
+//! Readers and what is read of them, by hand. Which texts can be read is in `tests/program/program.sh` and `tests/cases/`.
 
 mod readers;
 
@@ -233,7 +233,7 @@ fn four_million_rows_and_one_more_are_read(rt: HostRuntime) {
     }
 }
 
-/// Writes the row at which memory was refused, or `whole` where it was not: `tests/refusals.sh` reads it.
+/// Writes the row at which memory was refused, or `whole` where it was not: `tests/program/growths.sh` reads it.
 fn tell(rt: &HostRuntime, refused: Option<CaptureError>) {
     let _ = match refused {
         Some(refused) => println!(rt; "refused at row {}", refused.row),

@@ -4,8 +4,9 @@ use super::drawn::{CAPTURES, Draw, drawn};
 use super::parts::*;
 use super::{capture, fail, same};
 use block9::{Command, Exchange};
-use deck9::{Entry, Hands, State, is_run};
+use deck9::{Entry, Hands, Profile, State, is_run};
 use judge9::{RunVerdict, judge_with_run};
+use run9::TouchedRun;
 use sets25::SpanSet;
 use std::alloc::{AllocError, Global};
 use std::process::Abort;
@@ -106,7 +107,7 @@ pub(super) struct Run {
 }
 
 /// The states with the panel off.
-pub(super) fn without_panel(alloc: Global, states: &[State]) -> Result<Vec<State>, AllocError> {
+fn without_panel(alloc: Global, states: &[State]) -> Result<Vec<State>, AllocError> {
     let mut off = Vec::new(alloc);
     for state in states {
         off.push(State {
@@ -130,7 +131,7 @@ fn moves(alloc: Global, exchanges: &[Exchange], states: &[State]) -> Result<usiz
 }
 
 /// Whether an untouched deck goes on so at a place.
-pub(super) fn goes_on_untouched(exchanges: &[Exchange], states: &[State], at: usize) -> bool {
+fn goes_on_untouched(exchanges: &[Exchange], states: &[State], at: usize) -> bool {
     let before = at.saturating_sub(1);
     match (exchanges.get(before..=at), states.get(before..=at)) {
         (Some(exchanges), Some(states)) => is_run(exchanges, states, Hands::None),
@@ -339,6 +340,21 @@ pub(super) fn run_if_yes(alloc: Global, text: &str) -> Option<Run> {
         ) => Some(Run { exchanges, states }),
         _ => None,
     }
+}
+
+/// The run of the same exchanges with its moves: it is this run.
+pub(super) fn touched_run(rt: &impl Abort, alloc: Global, run: &Run) -> Result<TouchedRun, Fail> {
+    let profile = Profile::of(Hands::Allowed);
+    let Some(touched) = run9::fewest_moves(alloc, &profile, &run.exchanges)? else {
+        fail(rt, "a run with the fewest moves")
+    };
+    same(
+        rt,
+        touched.states.as_slice(),
+        run.states.as_slice(),
+        "the run that is judged",
+    );
+    Ok(touched)
 }
 
 /// How often a hand moves in the run of a capture, where that is a yes. No other run of it has fewer moves.

@@ -1,253 +1,199 @@
-//! What a hand keeps of the state in which it finds the deck, beside a slow way that asks for each field whether it could stay.
+//! What a hand keeps, beside a slow way that asks for each field whether any states before and behind its move could have it.
 
 use super::drawn::{CAPTURES, Draw, drawn};
-use super::fewest_hands::{Run, goes_on_untouched, run_if_yes, without_panel};
-use super::same;
+use super::fewest_hands::{Run, run_if_yes, touched_run};
+use super::parts::*;
+use super::{capture, fail, same};
 use block9::Exchange;
-use deck9::{Deck, Effect, Hands, Mode, Profile, State};
+use deck9::{Hands, Profile, State};
+use run9::Move;
 use sets25::SpanSet;
 use std::alloc::{AllocError, Global};
 use std::process::Abort;
 use std::test::Fail;
-use track9::{Start, Tracker};
+use track9::{Kept, Start, Tracker};
 
-/// Nothing is known of the deck.
-const NOTHING: Start = Start {
-    goal: None,
-    shown: None,
-    ins: None,
-    outs: None,
-    ains: None,
-    aouts: None,
-    local: None,
-};
+/// FULL EE ON, acknowledged: the deck may have forgotten goal, shown mode and registers.
+const FULL_EE_ON: &str = "C 20 61 81 D 10 01 11";
 
-/// The exchanges after a move of a hand up to the next one, the states after each of them, and the state that it found.
-#[derive(Drop)]
-struct Stretch<'a> {
-    exchanges: &'a [Exchange],
-    states: &'a [State],
-    found: State,
+/// A letter for each field in the order in which a hand keeps them: local, IN, OUT, audio IN, audio OUT, goal, shown.
+const LETTERS: [char; 7] = ['l', 'i', 'o', 'a', 'b', 'g', 's'];
+
+/// Which fields two states agree in.
+fn agreed(before: &State, behind: &State) -> [bool; 7] {
+    [
+        before.local == behind.local,
+        before.ins == behind.ins,
+        before.outs == behind.outs,
+        before.ains == behind.ains,
+        before.aouts == behind.aouts,
+        before.goal == behind.goal,
+        before.shown == behind.shown,
+    ]
 }
 
-/// One field more is known: that of the state, by its place in the order in which a hand keeps them.
-fn with_field(kept: &Start, place: usize, found: &State) -> Start {
-    let mut more = *kept;
-    match place {
-        0 => more.local = Some(found.local),
-        1 => more.ins = Some(found.ins),
-        2 => more.outs = Some(found.outs),
-        3 => more.ains = Some(found.ains),
-        4 => more.aouts = Some(found.aouts),
-        5 => more.goal = Some(found.goal),
-        _ => more.shown = Some(found.shown),
+/// The same as a tracker is told.
+fn kept(fields: [bool; 7]) -> Kept {
+    let [local, ins, outs, ains, aouts, goal, shown] = fields;
+    Kept {
+        goal,
+        shown,
+        ins,
+        outs,
+        ains,
+        aouts,
+        local,
     }
-    more
+}
+
+/// The letters of the fields that a move changes.
+fn changed(alloc: Global, moved: &Move) -> Result<String, AllocError> {
+    let mut letters = String::new(alloc);
+    for (letter, agrees) in LETTERS.iter().zip(agreed(&moved.before, &moved.behind)) {
+        if !agrees {
+            letters.push(*letter)?;
+        }
+    }
+    Ok(letters)
 }
 
 /// Every field is known.
 fn whole(state: &State) -> Start {
-    let mut start = NOTHING;
-    for place in 0..7 {
-        start = with_field(&start, place, state);
+    Start {
+        goal: Some(state.goal),
+        shown: Some(state.shown),
+        ins: Some(state.ins),
+        outs: Some(state.outs),
+        ains: Some(state.ains),
+        aouts: Some(state.aouts),
+        local: Some(state.local),
     }
-    start
 }
 
-/// Whether a state remains after these exchanges.
-fn remains(
-    rt: &impl Abort,
-    tracker: &mut Tracker<SpanSet>,
-    exchanges: &[Exchange],
-) -> Result<bool, AllocError> {
-    for exchange in exchanges {
-        tracker.observe(&exchange.command, &exchange.reply)?;
+/// The same state with the panel off.
+fn untouched(state: &State) -> State {
+    State {
+        panel: false,
+        ..*state
     }
-    let remains = tracker.remains();
-    same(rt, tracker.member().is_some(), remains, "a member");
-    Ok(remains)
 }
 
-/// Whether these exchanges have a run of an untouched deck with this start.
-fn has_run(
-    rt: &impl Abort,
-    alloc: Global,
-    start: &Start,
-    exchanges: &[Exchange],
-) -> Result<bool, AllocError> {
+/// Whether a drift alone leads an untouched deck from one state to another.
+fn drifts(alloc: Global, from: &State, to: &State) -> Result<bool, AllocError> {
     let profile = Profile::of(Hands::None);
-    let mut tracker = Tracker::starting(alloc, &profile, start)?;
-    let remains = remains(rt, &mut tracker, exchanges);
-    drop(tracker);
-    remains
-}
-
-/// Whether an exchange can leave an untouched deck with this start in a state.
-fn leads_to(
-    alloc: Global,
-    start: &Start,
-    exchange: &Exchange,
-    state: &State,
-) -> Result<bool, AllocError> {
-    let profile = Profile::of(Hands::None);
-    let tracker: Tracker<SpanSet> = Tracker::starting(alloc, &profile, start)?;
-    let before = tracker.before(&exchange.command, &exchange.reply, state);
+    let tracker: Tracker<SpanSet> = Tracker::starting(alloc, &profile, &whole(from))?;
+    let before = tracker.before_drift(to);
     drop(tracker);
     Ok(before.is_some())
 }
 
-/// What a hand can keep at most.
-fn most_kept(rt: &impl Abort, alloc: Global, stretch: &Stretch) -> Result<Start, AllocError> {
-    let mut kept = NOTHING;
-    for place in 0..7 {
-        let tried = with_field(&kept, place, &stretch.found);
-        if has_run(rt, alloc, &tried, stretch.exchanges)? {
-            kept = tried;
-        }
-    }
-    Ok(kept)
+/// Whether an exchange leads an untouched deck from one state to another.
+fn leads(alloc: Global, from: &State, exchange: &Exchange, to: &State) -> Result<bool, AllocError> {
+    let profile = Profile::of(Hands::None);
+    let tracker: Tracker<SpanSet> = Tracker::starting(alloc, &profile, &whole(from))?;
+    let before = tracker.before(&exchange.command, &exchange.reply, to);
+    drop(tracker);
+    Ok(before.is_some())
 }
 
-/// Whether the deck could have this goal and show this mode after the first exchange, with such a start.
-fn could_have(
-    rt: &impl Abort,
-    alloc: Global,
-    stretch: &Stretch,
-    kept: &Start,
-    goal: Mode,
-    shown: Mode,
-) -> Result<bool, AllocError> {
-    let (Some((exchange, rest)), Some(first)) = (
-        stretch.exchanges.split_first(),
-        stretch.states.first(),
+/// A drift leads from the state before a move to the one that the hand found, and the next exchange from the one that it left to
+/// the state behind.
+fn fits(rt: &impl Abort, alloc: Global, run: &Run, moved: &Move) -> Result<(), Fail> {
+    let last = moved.place.saturating_sub(1);
+    let (Some(exchange), Some([before, behind])) = (
+        run.exchanges.get(moved.place),
+        run.states.get(last..=moved.place),
     ) else {
-        return Ok(false);
+        fail(rt, moved)
     };
-    let state = State {
-        goal,
-        shown,
-        ..*first
-    };
-    Ok(leads_to(alloc, kept, exchange, &state)? && has_run(rt, alloc, &whole(&state), rest)?)
+    let drifts = drifts(alloc, &untouched(before), &untouched(&moved.before))?;
+    same(rt, drifts, true, moved);
+    let leads = leads(
+        alloc,
+        &untouched(&moved.behind),
+        exchange,
+        &untouched(behind),
+    )?;
+    same(rt, leads, true, moved);
+    same(rt, moved.before.panel && moved.behind.panel, true, moved);
+    Ok(())
 }
 
-/// Whether it could have the goal that was found, with any mode, or show the mode that was found, with any goal or with this
-/// one alone.
-fn could_keep(
-    rt: &impl Abort,
-    alloc: Global,
-    stretch: &Stretch,
-    kept: &Start,
-    goals: &[Mode],
-    shown: &[Mode],
+/// Takes these exchanges, and answers whether a state remains.
+fn remains(tracker: &mut Tracker<SpanSet>, exchanges: &[Exchange]) -> Result<bool, AllocError> {
+    for exchange in exchanges {
+        tracker.observe(&exchange.command, &exchange.reply)?;
+    }
+    Ok(tracker.remains())
+}
+
+/// Whether a hand that finds one of these states can keep these fields.
+fn can_keep(
+    found: &Tracker<SpanSet>,
+    fields: [bool; 7],
+    exchanges: &[Exchange],
 ) -> Result<bool, AllocError> {
-    for goal in goals {
-        for mode in shown {
-            if could_have(rt, alloc, stretch, kept, *goal, *mode)? {
-                return Ok(true);
-            }
-        }
-    }
-    Ok(false)
+    let mut tracker = found.touched(&kept(fields))?;
+    let remains = remains(&mut tracker, exchanges);
+    drop(tracker);
+    remains
 }
 
-/// Whether a command leaves goal and shown mode as they are.
-fn keeps_modes(exchange: &Exchange) -> bool {
-    match Deck::effect(None, &exchange.command) {
-        Effect::Nothing | Effect::Change(_, _) | Effect::Panel(_) | Effect::ForgetRegisters => true,
-        _ => false,
+/// The most that a hand can keep, field by field.
+fn most_kept(found: &Tracker<SpanSet>, exchanges: &[Exchange]) -> Result<[bool; 7], AllocError> {
+    let mut fields = [false; 7];
+    for place in 0..7 {
+        fields[place] = true;
+        fields[place] = can_keep(found, fields, exchanges)?;
     }
+    Ok(fields)
 }
 
-/// A goal and a shown mode that changed at the move could not have stayed.
-fn modes_had_to_change(
+/// The states from which the stretch behind a move goes on.
+fn goes_on<'a>(
     rt: &impl Abort,
-    alloc: Global,
-    stretch: &Stretch,
-    kept: &Start,
-    first: &State,
-) -> Result<(), AllocError> {
-    let found = &stretch.found;
-    let is_goal_kept = first.goal == found.goal;
-    if !is_goal_kept {
-        let could = could_keep(rt, alloc, stretch, kept, &[found.goal], &Mode::ALL)?;
-        same(rt, could, false, (found, first, "goal"));
-    }
-    if first.shown != found.shown {
-        let goals = if is_goal_kept {
-            [found.goal; 10]
-        } else {
-            Mode::ALL
-        };
-        let could = could_keep(rt, alloc, stretch, kept, &goals, &[found.shown])?;
-        same(rt, could, false, (found, first, "shown"));
-    }
-    Ok(())
+    mut found: Tracker<'a, SpanSet>,
+    before: &[Exchange],
+    behind: &[Exchange],
+    moved: &Move,
+) -> Result<Tracker<'a, SpanSet>, AllocError> {
+    remains(&mut found, before)?;
+    found.drift()?;
+    let fields = agreed(&moved.before, &moved.behind);
+    same(rt, fields, most_kept(&found, behind)?, moved);
+    found.touched(&kept(fields))
 }
 
-/// At a move each field stays that can.
-fn is_least(rt: &impl Abort, alloc: Global, stretch: &Stretch) -> Result<(), AllocError> {
-    let (Some(exchange), Some(first)) = (stretch.exchanges.first(), stretch.states.first()) else {
-        return Ok(());
-    };
-    let kept = most_kept(rt, alloc, stretch)?;
-    let begins_so = leads_to(alloc, &kept, exchange, first)?;
-    same(rt, begins_so, true, (&stretch.found, first));
-    if keeps_modes(exchange) {
-        modes_had_to_change(rt, alloc, stretch, &kept, first)?;
-    }
-    Ok(())
-}
-
-/// The place after the exchanges with which an untouched deck goes on from a place on.
-fn end_of_stretch(exchanges: &[Exchange], states: &[State], start: usize) -> usize {
-    let mut end = exchanges.len();
-    for at in (0..exchanges.len()).rev() {
-        if at > start && !goes_on_untouched(exchanges, states, at) {
-            end = at;
-        }
-    }
-    end
-}
-
-/// Where a hand moves at this place, each field stays that can. Answers whether it does.
-fn is_least_at(
+/// The most is kept at each of these moves.
+fn keeps_most(
     rt: &impl Abort,
     alloc: Global,
     exchanges: &[Exchange],
-    states: &[State],
-    at: usize,
-) -> Result<bool, AllocError> {
-    if goes_on_untouched(exchanges, states, at) {
-        return Ok(false);
+    moves: &[Move],
+) -> Result<(), AllocError> {
+    let profile = Profile::of(Hands::None);
+    let mut tracker = Tracker::starting(alloc, &profile, &Start::default())?;
+    let mut start = 0;
+    for (at, moved) in moves.iter().enumerate() {
+        let end = moves
+            .get(at.saturating_add(1))
+            .map_or(exchanges.len(), |next| next.place);
+        let before = exchanges.get(start..moved.place).unwrap_or_default();
+        let behind = exchanges.get(moved.place..end).unwrap_or_default();
+        tracker = goes_on(rt, tracker, before, behind, moved)?;
+        start = moved.place;
     }
-    let end = end_of_stretch(exchanges, states, at);
-    let (Some(exchanges), Some(found), Some(states)) = (
-        exchanges.get(at..end),
-        states.get(at.saturating_sub(1)),
-        states.get(at..end),
-    ) else {
-        return Ok(false);
-    };
-    let stretch = Stretch {
-        exchanges,
-        states,
-        found: *found,
-    };
-    is_least(rt, alloc, &stretch)?;
-    Ok(true)
+    Ok(())
 }
 
-/// At each move of a run each field stays that can. Answers how many moves there are.
-fn moves_are_least(rt: &impl Abort, alloc: Global, run: &Run) -> Result<usize, AllocError> {
-    let states = without_panel(alloc, run.states.as_slice())?;
-    let mut moves = 0usize;
-    for at in 1..states.len() {
-        if is_least_at(rt, alloc, run.exchanges.as_slice(), states.as_slice(), at)? {
-            moves = moves.saturating_add(1);
-        }
+/// Each move of a run fits into it and keeps the most. Answers how many there are.
+fn moves_fit(rt: &impl Abort, alloc: Global, run: &Run) -> Result<usize, Fail> {
+    let touched = touched_run(rt, alloc, run)?;
+    for moved in &touched.moves {
+        fits(rt, alloc, run, moved)?;
     }
-    Ok(moves)
+    keeps_most(rt, alloc, &run.exchanges, &touched.moves)?;
+    Ok(touched.moves.len())
 }
 
 #[test]
@@ -257,10 +203,50 @@ fn captures_that_are_drawn(rt: HostRuntime) -> Result<(), Fail> {
     for _ in 0..CAPTURES {
         let text = drawn(rt.alloc(), &mut draw)?;
         if let Some(run) = run_if_yes(rt.alloc(), text.as_str()) {
-            moves = moves.saturating_add(moves_are_least(&rt, rt.alloc(), &run)?);
+            moves = moves.saturating_add(moves_fit(&rt, rt.alloc(), &run)?);
         }
     }
     // Hands have to move often enough.
     same(&rt, moves > 60, true, moves);
     Ok(())
+}
+
+/// The one move of a capture: after how many exchanges it comes, and which fields it changes.
+fn has_one_move(
+    rt: &impl Abort,
+    alloc: Global,
+    parts: &[&str],
+    place: usize,
+    letters: &str,
+) -> Result<(), Fail> {
+    let text = capture(alloc, parts)?;
+    let Some(run) = run_if_yes(alloc, text.as_str()) else {
+        fail(rt, parts)
+    };
+    let touched = touched_run(rt, alloc, &run)?;
+    let [moved] = touched.moves.as_slice() else {
+        fail(rt, parts)
+    };
+    same(rt, moved.place, place, parts);
+    same(rt, changed(alloc, moved)?.as_str(), letters, parts);
+    Ok(())
+}
+
+/// What a register holds that was forgotten is no choice of a hand: it may have been from the first what is sensed at the end.
+#[test]
+fn a_point_that_was_forgotten(rt: HostRuntime) -> Result<(), Fail> {
+    let parts = &[PRESET_10, FULL_EE_ON, REMOTE, LOCAL, IN_10];
+    has_one_move(&rt, rt.alloc(), parts, 3, "l")
+}
+
+/// The deck was in LOCAL and ignored the preset.
+#[test]
+fn a_deck_that_was_switched_to_remote(rt: HostRuntime) -> Result<(), Fail> {
+    has_one_move(&rt, rt.alloc(), &[PRESET_10, IN_11, REMOTE], 2, "l")
+}
+
+/// The deck in REMOTE did what it acknowledged, so a hand has set IN.
+#[test]
+fn a_point_that_was_moved(rt: HostRuntime) -> Result<(), Fail> {
+    has_one_move(&rt, rt.alloc(), &[REMOTE, PRESET_10, IN_11], 2, "i")
 }

@@ -2,7 +2,8 @@
 
 use block9::{Block, Exchange};
 use deck9::{
-    Deck, Effect, Knowledge, Known, KnownEntry, ModeSet, Profile, Register, RegistersSet, Sense,
+    Deck, Effect, Forgotten, Knowledge, Known, KnownEntry, ModeSet, Profile, Register,
+    RegistersSet, Sense,
 };
 use picture9::{Done, Markup};
 use report9::{WhyNo, status_in};
@@ -116,14 +117,32 @@ impl Disputed {
         if exchange.reply.is_nak() {
             return false;
         }
-        match Deck::effect(profile.deck.as_ref(), &exchange.command) {
+        let deck = profile.deck.as_ref();
+        let beside = Deck::forgotten_with(deck, exchange);
+        self.is_changed_by(Deck::effect(deck, &exchange.command)) || self.is_forgotten(beside)
+    }
+
+    /// Whether an effect may change one of the fields.
+    fn is_changed_by(self, effect: Effect) -> bool {
+        match effect {
             Effect::Nothing => false,
-            Effect::Go(_) | Effect::KeepOrStop | Effect::ForgetMotion => self.shown,
+            Effect::Go(_) | Effect::KeepOr(_) | Effect::ForgetMotion => self.shown,
             Effect::Change(register, _) => self.has(register),
             Effect::Panel(_) => self.local,
-            Effect::ForgetTape => self.shown || self.has_register(),
+            Effect::ForgetTape => self.is_forgotten(Forgotten::Tape),
             Effect::ForgetRegisters => self.has_register(),
             Effect::ForgetAll => true,
+        }
+    }
+
+    /// Whether one of the fields is among what is forgotten.
+    fn is_forgotten(self, forgotten: Forgotten) -> bool {
+        match forgotten {
+            Forgotten::Nothing => false,
+            Forgotten::Motion => self.shown,
+            Forgotten::Registers => self.has_register(),
+            Forgotten::Tape => self.shown || self.has_register(),
+            Forgotten::Everything => true,
         }
     }
 

@@ -2,7 +2,7 @@
 ghost use Rattle.std.specs.Prelude.{◌≡◌, None, Some, IfOk};
 ghost use Rattle.program9.specs.Trying.{AreAnswers, IsChecked, all_terms, profile_with};
 
-use crate::again::Kept;
+use crate::again::text_again;
 use crate::trying::answer::{Answer, check};
 use crate::trying::every_terms::every_terms;
 use crate::trying::terms::Terms;
@@ -15,9 +15,10 @@ use view9::Ending;
 
 /// A capture that is asked.
 #[derive(Drop)]
-struct Asking<'a, R: Read + Drop> {
+struct Asking<'a> {
     alloc: Global,
-    kept: &'a Kept<R>,
+    /// Its text.
+    text: &'a [u8],
     scope: Scope,
     /// A deck that does what the rules say of every deck, at the rate and with the hands that were asked with last.
     plain: Profile,
@@ -25,51 +26,52 @@ struct Asking<'a, R: Read + Drop> {
     with_sheet: Profile,
 }
 
-/// The answers to all terms, in the order of the lines, of one whose own rate and sheet these are.
+/// The answers to all terms, in the order of the lines, of one whose own rate and sheet these are. The text is read where a reader of this
+/// type would be.
 pub(crate) fn answers_to<R: Read + Drop>(
     alloc: Global,
-    kept: &Kept<R>,
+    text: &[u8],
     scope: Scope,
     own: Profile,
 ) -> Result<Vec<Answer>, AllocError>
-    ensures { IfOk result (λ answers. AreAnswers scope own.deck kept.now.text.items (all_terms own) answers.items) }
+    ensures { IfOk result (λ answers. AreAnswers scope own.deck text.now (all_terms own) answers.items) }
 {
     let all = every_terms(alloc, &own)?;
     let mut asking = Asking {
         alloc,
-        kept,
+        text,
         scope,
         plain: Profile::at(Rate::Fps25, Hands::None),
         with_sheet: own,
     };
-    asking.ask_with_each(all.as_slice())
+    asking.ask_with_each::<R>(all.as_slice())
 }
 
-impl<R: Read + Drop> Asking<'_, R> {
+impl Asking<'_> {
     /// Asks with each of these terms.
-    fn ask_with_each(&mut self, all: &[Terms]) -> Result<Vec<Answer>, AllocError>
+    fn ask_with_each<R: Read + Drop>(&mut self, all: &[Terms]) -> Result<Vec<Answer>, AllocError>
         requires { self.old.plain.deck ≡ None }
-        ensures { IfOk result (λ answers. AreAnswers self.old.scope self.old.with_sheet.deck self.old.kept.now.text.items all.now answers.items) }
+        ensures { IfOk result (λ answers. AreAnswers self.old.scope self.old.with_sheet.deck self.old.text.now all.now answers.items) }
     {
         let mut answers = Vec::new(self.alloc);
         for terms in all {
-            let answer = self.ask(*terms);
+            let answer = self.ask::<R>(*terms);
             answers.push(answer)?;
         }
         Ok(answers)
     }
 
     /// Asks with these terms.
-    fn ask(&mut self, terms: Terms) -> Answer
+    fn ask<R: Read + Drop>(&mut self, terms: Terms) -> Answer
         requires { self.old.plain.deck ≡ None }
         ensures terms { result.terms ≡ terms }
-        ensures checked { IsChecked self.old.scope (profile_with self.old.with_sheet.deck terms) (Some self.old.kept.now.text.items) result.ended }
+        ensures checked { IsChecked self.old.scope (profile_with self.old.with_sheet.deck terms) (Some self.old.text.now) result.ended }
         ensures plain { self.new.plain.deck ≡ None }
         ensures deck { self.new.with_sheet.deck ≡ self.old.with_sheet.deck }
         ensures scope { self.new.scope ≡ self.old.scope }
-        ensures kept { self.new.kept ≡ self.old.kept }
+        ensures text { self.new.text ≡ self.old.text }
     {
-        let (alloc, reader, scope) = (self.alloc, self.kept.again(), self.scope);
+        let (alloc, reader, scope) = (self.alloc, text_again::<R>(self.text), self.scope);
         let ended = if terms.has_sheet {
             check_with(alloc, reader, scope, &mut self.with_sheet, terms)
         } else {

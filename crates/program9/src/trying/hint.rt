@@ -1,4 +1,5 @@
-//! What is said below the answers, on standard error: with which terms it is a yes, and which signs of the capture bear on that.
+//! What is said below the answers, on standard error: with which terms it is a yes, and which signs of the capture bear on that; and what
+//! is said of them below a `why`.
 ghost use Rattle.std.specs.Prelude.{IfOk};
 ghost use Rattle.program9.specs.Trying.{IsHint};
 
@@ -32,7 +33,7 @@ pub(crate) fn hints_of<R: Read + Drop>(
 }
 
 /// The lines as what is said; nothing where there are none.
-fn message_of(lines: Vec<u8>) -> Message
+pub(crate) fn message_of(lines: Vec<u8>) -> Message
     ensures { IsHint result }
 {
     let mut lines = lines;
@@ -41,8 +42,20 @@ fn message_of(lines: Vec<u8>) -> Message
         return Message::Nothing;
     }
     match String::from_utf8(lines) {
-        Ok(lines) => Message::Hints(lines),
+        Ok(lines) => Message::Lines(lines),
         Err(_) => Message::Nothing,
+    }
+}
+
+/// Puts which terms make it a yes, as what to ask next.
+pub(crate) fn put_next(lines: &mut Vec<u8>, answers: &[Answer]) -> Result<(), AllocError> {
+    let [best, other] = best_terms(answers);
+    match best {
+        Some(best) => put_yes(lines, best, other),
+        None => put_text(
+            lines,
+            "neither a frame rate nor a hand on the panel makes it a yes (ninecheck try)\n",
+        ),
     }
 }
 

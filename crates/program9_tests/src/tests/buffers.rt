@@ -36,6 +36,7 @@ fn judged(alloc: Global, text: &str, report: Report, writer: Narrow) -> Option<(
             width: 1200,
         },
         line_buffered: false,
+        quiet: true,
     };
     let profile = Profile::of(Hands::None);
     let named = Named {

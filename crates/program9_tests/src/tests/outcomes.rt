@@ -6,7 +6,7 @@ use program9::{Message, Unopened, WhyUnopened, outcome, outcome_in_parts};
 use report9::{JudgeError, Totals};
 use std::alloc::{AllocError, Global};
 
-/// A reader, a writer and memory that fail; tests/program.sh has the rows that can't be read.
+/// A reader, a writer and memory that fail; tests/program/program.sh has the rows that can't be read.
 #[test]
 fn a_refusal_has_its_status_and_its_two_lines(rt: HostRuntime) {
     let unread = CaptureError {
@@ -48,7 +48,7 @@ fn unopened(alloc: Global, name: Option<&str>, why: WhyUnopened) -> Result<Strin
     Message::CannotOpen(Unopened { file, why }).to_string(alloc)
 }
 
-/// Reasons that no file of tests/program.sh has.
+/// Reasons that no file of tests/program/program.sh has.
 #[test]
 fn a_capture_that_is_not_opened_is_told_by_its_name(rt: HostRuntime) {
     let table = [

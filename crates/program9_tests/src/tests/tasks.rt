@@ -133,6 +133,15 @@ const COMMANDS: &[(&'static [&'static str], Wanted)] = &[
         },
     ),
     (
+        &["touches", "--deck", "edit.toml", "a.csv"],
+        Wanted {
+            report: Report::Touches,
+            file: Some("a.csv"),
+            hands: Hands::Allowed,
+            deck: Some("edit.toml"),
+        },
+    ),
+    (
         &["explain", "--all", "--hands"],
         Wanted {
             report: Report::Parts(NAMES),
@@ -188,7 +197,14 @@ const ASKED: &[(&'static [&'static str], Report, bool, bool)] = &[
     ),
     (&["run"], Report::Run, false, false),
     (&["run", "--sync"], Report::Run, true, false),
+    (&["touches", "--sync"], Report::Touches, true, false),
     (&["why"], Report::ToBreak(View::Why), false, false),
+    (
+        &["why", "--quiet"],
+        Report::ToBreak(View::Why),
+        false,
+        false,
+    ),
     (
         &["why", "--all", "--line-buffered"],
         Report::Parts(View::Why),
@@ -215,6 +231,7 @@ fn what_words_ask_for(rt: HostRuntime) {
                 width: 1200,
             },
             line_buffered: *line_buffered,
+            quiet: words.iter().any(|word| *word == "--quiet"),
         };
         same(&rt, task.asked, asked, *words);
     }
@@ -249,12 +266,14 @@ fn words_that_name_a_rate(rt: HostRuntime) {
     }
 }
 
-/// tests/program.sh has others.
+/// tests/program/program.sh has others.
 const REFUSED: &[&'static [&'static str]] = &[
     &[""],
     &["help", "--version"],
     &["run", "--all"],
     &["run", "--line-buffered"],
+    &["touches", "--hands"],
+    &["check", "--quiet"],
     &["check", "--bytes"],
     &["check", "--rate", "29.97"],
     &["check", "--rate", "29.97DF"],

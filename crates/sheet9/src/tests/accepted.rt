@@ -11,6 +11,7 @@ struct Taken {
     text: &'static str,
     forgets: &'static [(u32, Forgotten)],
     also_forgets: &'static [(u32, Forgotten)],
+    goals: &'static [(u32, &'static [Mode])],
     names: &'static [(u32, &'static [u8])],
     adds: &'static [(Mode, Mode)],
     replies: &'static [(u32, &'static [ReplyForm])],
@@ -25,6 +26,7 @@ const TAKEN: &[Taken] = &[
             (0x40_2D, Forgotten::Nothing),
         ],
         also_forgets: &[],
+        goals: &[],
         names: &[],
         adds: &[(Mode::Rec, Mode::Shuttle), (Mode::Rec, Mode::Jog)],
         replies: &[],
@@ -33,6 +35,7 @@ const TAKEN: &[Taken] = &[
         text: "",
         forgets: &[],
         also_forgets: &[],
+        goals: &[],
         names: &[],
         adds: &[],
         replies: &[],
@@ -41,6 +44,7 @@ const TAKEN: &[Taken] = &[
         text: "# nothing\n[passes]\n[names]\n[forgets]\n",
         forgets: &[],
         also_forgets: &[],
+        goals: &[],
         names: &[],
         adds: &[],
         replies: &[],
@@ -49,6 +53,7 @@ const TAKEN: &[Taken] = &[
         text: "forgets = { \"20 61\" = \"nothing\" }\nnames = { \"20 61\" = \"A\" }",
         forgets: &[(0x20_61, Forgotten::Nothing)],
         also_forgets: &[],
+        goals: &[],
         names: &[(0x20_61, b"A")],
         adds: &[],
         replies: &[],
@@ -63,6 +68,7 @@ const TAKEN: &[Taken] = &[
             (0x80_00, Forgotten::Motion),
         ],
         also_forgets: &[],
+        goals: &[],
         names: &[],
         adds: &[],
         replies: &[],
@@ -71,6 +77,7 @@ const TAKEN: &[Taken] = &[
         text: "[forgets]\n\"2f fF\" = \"nothing\"\n\"aB Cd\" = 'tape'\n",
         forgets: &[(0x2F_FF, Forgotten::Nothing), (0xAB_CD, Forgotten::Tape)],
         also_forgets: &[],
+        goals: &[],
         names: &[],
         adds: &[],
         replies: &[],
@@ -84,6 +91,24 @@ const TAKEN: &[Taken] = &[
             (0x00_1D, Forgotten::Nothing),
             (0x41_30, Forgotten::Motion),
         ],
+        goals: &[],
+        names: &[],
+        adds: &[],
+        replies: &[],
+    },
+    // Where commands may lead: to one mode, to several, to one twice; and what is forgotten besides, in digits of either case.
+    Taken {
+        text: "[goals]\n'20 65' = ['REC']\n'2f fF' = ['STOP', 'EJECT', 'STOP']\n'21 01' = ['PLAY']\n[forgets]\n'20 65' = 'registers'\n'2F FF' = 'nothing'\n'20 61' = 'tape'\n",
+        forgets: &[(0x20_61, Forgotten::Tape)],
+        also_forgets: &[
+            (0x20_65, Forgotten::Registers),
+            (0x2F_FF, Forgotten::Nothing),
+        ],
+        goals: &[
+            (0x20_65, &[Mode::Rec]),
+            (0x2F_FF, &[Mode::Stop, Mode::Eject]),
+            (0x21_01, &[Mode::Play]),
+        ],
         names: &[],
         adds: &[],
         replies: &[],
@@ -93,6 +118,7 @@ const TAKEN: &[Taken] = &[
         text: "[names]\n'20 61' = 'FULL EE ON'\n'61 0a' = 'ABCDEFGHIJKLMNOPQRSTUVWX'\n'21 01' = 'Z'\n'62 0C' = 'A0 9+-/'\n'ab cd' = 'Y //'\n",
         forgets: &[],
         also_forgets: &[],
+        goals: &[],
         names: &[
             (0x20_61, b"FULL EE ON"),
             (0x61_0A, b"ABCDEFGHIJKLMNOPQRSTUVWX"),
@@ -108,6 +134,7 @@ const TAKEN: &[Taken] = &[
         text: "[passes]\nPLAY = ['PLAY']\nFF = ['REW', 'REW']\nREC = ['STOP']\nSTOP = []\nEJECT = ['VAR', 'CUED', 'EJECT']\n",
         forgets: &[],
         also_forgets: &[],
+        goals: &[],
         names: &[],
         adds: &[
             (Mode::Play, Mode::Play),
@@ -124,6 +151,7 @@ const TAKEN: &[Taken] = &[
         text: "[replies]\n'61 0a' = ['74 08', '74 09', '78 08']\n'61 0C' = ['78 00']\n'60 2B' = ['76 2B']\n'00 11' = ['13 11']\n'62 21' = ['7* 21']\n'20 01' = ['7f aB', '10 01', '7F Ab', 'a* 00', 'F0 0f', '3F FF', '51 00']\n",
         forgets: &[],
         also_forgets: &[],
+        goals: &[],
         names: &[],
         adds: &[],
         replies: &[
@@ -233,6 +261,7 @@ fn sheets_that_are_taken(rt: HostRuntime) -> Result<(), Fail> {
             "{:?}",
             taken.text
         );
+        assert!(rt; goals(&deck, taken.goals), "{:?}", taken.text);
         assert!(rt; names(&deck, taken.names), "{:?}", taken.text);
         assert!(rt; passes(&deck, taken.adds), "{:?}", taken.text);
         assert!(rt; replies(&deck, taken.replies), "{:?}", taken.text);
@@ -248,6 +277,19 @@ fn forgets(map: &BTreeMap<u32, Forgotten>, wanted: &[(u32, Forgotten)]) -> bool 
         }
     }
     map.len() == wanted.len()
+}
+
+/// Whether the deck may go to these modes at these commands, and to no others at any.
+fn goals(deck: &Deck, wanted: &[(u32, &'static [Mode])]) -> bool {
+    for (head, modes) in wanted {
+        for mode in Mode::ALL {
+            let may_go = deck.goals.get(head).is_some_and(|goals| goals.has(mode));
+            if may_go != modes.contains(&mode) {
+                return false;
+            }
+        }
+    }
+    deck.goals.len() == wanted.len()
 }
 
 /// Whether the deck has these names and no others.

@@ -16,23 +16,23 @@ const REFUSED: &[(&'static [u8], &'static str)] = &[
     (b"= 1\n\n\xC3\n", "line 3: not TOML"),
     (
         b"forget = 1",
-        "\"forget\": unknown key: only [forgets], [names], [passes] and [replies] are read",
+        "\"forget\": unknown key: only [forgets], [goals], [names], [passes] and [replies] are read",
     ),
     (
         b"[Passes]\n[zzz]\n",
-        "\"Passes\": unknown key: only [forgets], [names], [passes] and [replies] are read",
+        "\"Passes\": unknown key: only [forgets], [goals], [names], [passes] and [replies] are read",
     ),
     (
         b"forgets = 1\n\"zz\" = 2",
-        "\"zz\": unknown key: only [forgets], [names], [passes] and [replies] are read",
+        "\"zz\": unknown key: only [forgets], [goals], [names], [passes] and [replies] are read",
     ),
     (
         b"\"\" = 1",
-        "\"\": unknown key: only [forgets], [names], [passes] and [replies] are read",
+        "\"\": unknown key: only [forgets], [goals], [names], [passes] and [replies] are read",
     ),
     (
         b"\"a\\n\\u001B[31m\\\"\\u00e9\" = 1",
-        "\"a\\n\\x1b[31m\\\"\\xc3\\xa9\": unknown key: only [forgets], [names], [passes] and [replies] are read",
+        "\"a\\n\\x1b[31m\\\"\\xc3\\xa9\": unknown key: only [forgets], [goals], [names], [passes] and [replies] are read",
     ),
     (b"forgets = 1", "\"forgets\": not a table"),
     (
@@ -117,6 +117,63 @@ const REFUSED: &[(&'static [u8], &'static str)] = &[
         "[forgets] \"20 61\": not \"nothing\", \"motion\", \"registers\", \"tape\" or \"everything\"",
     ),
     (b"names = 1\npasses = 1", "\"names\": not a table"),
+    (b"goals = 1", "\"goals\": not a table"),
+    (
+        b"names = 1\n[goals]\n\"20 65\" = 1",
+        "[goals] \"20 65\": not a list of modes, as [\"SHUTTLE\", \"JOG\"]",
+    ),
+    (
+        b"[forgets]\n\"20 61\" = 1\n[goals]\n\"20 65\" = 1",
+        "[forgets] \"20 61\": not \"nothing\", \"motion\", \"registers\", \"tape\" or \"everything\"",
+    ),
+    (
+        b"[goals]\n\"20 65 01\" = [\"REC\"]",
+        "[goals] \"20 65 01\": not two bytes in hexadecimal, as \"20 61\"",
+    ),
+    (
+        b"[goals]\n\"72 20\" = [\"REC\"]",
+        "[goals] \"72 20\": groups 1 and 7 are a deck's replies, not commands",
+    ),
+    (
+        b"[goals]\n\"20 01\" = 1",
+        "[goals] \"20 01\": a listed command: the rules say where it leads",
+    ),
+    (
+        b"[goals]\n\"61 0C\" = 1",
+        "[goals] \"61 0C\": a listed command: the rules say where it leads",
+    ),
+    (
+        b"[goals]\n\"40 2D\" = 1",
+        "[goals] \"40 2D\": a command of another group than 2 leads to no mode",
+    ),
+    (
+        b"[goals]\n\"20 65\" = \"REC\"",
+        "[goals] \"20 65\": not a list of modes, as [\"SHUTTLE\", \"JOG\"]",
+    ),
+    (
+        b"[goals]\n\"20 65\" = []\n[forgets]\n\"20 65\" = \"tape\"",
+        "[goals] \"20 65\": an empty list: at least one mode is wanted",
+    ),
+    (
+        b"[goals]\n\"20 65\" = [\"REC\", 1]",
+        "[goals] \"20 65\": not a list of modes, as [\"SHUTTLE\", \"JOG\"]",
+    ),
+    (
+        b"[goals]\n\"20 65\" = [\"REC\", \"rec\"]\n[forgets]\n\"20 65\" = \"tape\"",
+        "[goals] \"20 65\": \"rec\" is not STOP, PLAY, REC, FF, REW, SHUTTLE, JOG, VAR, CUED or EJECT",
+    ),
+    (
+        b"[goals]\n\"20 65\" = [\"REC\"]\n[forgets]\n\"20 65\" = \"motion\"",
+        "[goals] \"20 65\": [forgets] has another word for it than \"nothing\" and \"registers\"",
+    ),
+    (
+        b"[goals]\n\"20 6a\" = [\"REC\"]\n\"20 6A\" = [\"REC\"]\n[forgets]\n\"20 6A\" = \"everything\"",
+        "[goals] \"20 6A\": [forgets] has another word for it than \"nothing\" and \"registers\"",
+    ),
+    (
+        b"[goals]\n\"20 6a\" = [\"REC\"]\n\"20 6A\" = [\"REC\"]",
+        "[goals] \"20 6a\": named twice",
+    ),
     (
         b"[names]\n\"20  61\" = 1",
         "[names] \"20  61\": not two bytes in hexadecimal, as \"20 61\"",

@@ -90,12 +90,15 @@ forgotten_code = code_by ℕ coded_ℕ number_forgotten forgotten_by_number forg
 abbrev pub forgets_code : Coded (BTreeMap ℕ Forgotten)
 forgets_code = btree_map_code coded_ℕ forgotten_code
 
+abbrev pub goals_code : Coded (BTreeMap ℕ ModeSet)
+goals_code = btree_map_code coded_ℕ mode_set_code
+
 abbrev pub deck_code : Coded Deck
 deck_code =
-    code_by (BTreeMap ℕ Forgotten × (BTreeMap ℕ Forgotten × (List ModeSet × (BTreeMap ℕ (ArrayVec ℕ) × BTreeMap ℕ (SmallVec ReplyForm)))))
-    (coded× forgets_code (coded× forgets_code (coded× (coded_list mode_set_code) (coded× (btree_map_code coded_ℕ (array_vec_code coded_ℕ)) table_code))))
-    (λ d. (d.forgets, (d.also_forgets, (d.ways, (d.names, d.replies)))))
-    (λ p. record { forgets = p.0; also_forgets = p.1.0; ways = p.1.1.0; names = p.1.1.1.0; replies = p.1.1.1.1 }) (λ _. refl)
+    code_by (BTreeMap ℕ Forgotten × (BTreeMap ℕ ModeSet × (BTreeMap ℕ Forgotten × (List ModeSet × (BTreeMap ℕ (ArrayVec ℕ) × BTreeMap ℕ (SmallVec ReplyForm))))))
+    (coded× forgets_code (coded× goals_code (coded× forgets_code (coded× (coded_list mode_set_code) (coded× (btree_map_code coded_ℕ (array_vec_code coded_ℕ)) table_code)))))
+    (λ d. (d.forgets, (d.goals, (d.also_forgets, (d.ways, (d.names, d.replies))))))
+    (λ p. record { forgets = p.0; goals = p.1.0; also_forgets = p.1.1.0; ways = p.1.1.1.0; names = p.1.1.1.1.0; replies = p.1.1.1.1.1 }) (λ _. refl)
 
 abbrev pub profile_code : Coded Profile
 profile_code =

@@ -6,7 +6,7 @@ pub use Rattle.block9.specs.declared.block.Block.{Block}
 pub use Rattle.block9.specs.declared.command.Command.{Command}
 pub use Rattle.deck9.specs.Contradict.{CanPass, Passes}
 pub use Rattle.deck9.specs.Drift.{Drift, KeepsRest, PairReaches}
-pub use Rattle.deck9.specs.Effect.{Becomes, Does, effect_of, KeepsPanel, moved_entry, switched as panel_switched}
+pub use Rattle.deck9.specs.Effect.{Becomes, Does, effect_of, KeepsOrGoes, KeepsPanel, moved_entry, switched as panel_switched}
 pub use Rattle.deck9.specs.Local.{is_of_goal_or_register, may_ignore}
 pub use Rattle.deck9.specs.Mode.{is_mode, is_one_of, on_the_way}
 pub use Rattle.deck9.specs.ModeCalls.{both, is_some, KnowsModes, way}

@@ -1,6 +1,6 @@
 -- How pairs of a goal and a shown mode change.
 use Rattle.std.specs.Prelude.{if◌then◌else◌, ◌∷◌}
-use Rattle.track9.specs.Working.Deck.{[], bit_of, Bool, both, Cued, Deck, either, Eject, FastForward, is_mode, is_some, Jog, List, Mode, modes, ModeSet, Option, Play, Rec, Rewind, shown_with}
+use Rattle.track9.specs.Working.Deck.{[], bit_of, Bool, both, Cued, Deck, either, Eject, FastForward, has, is_mode, is_some, Jog, List, Mode, modes, ModeSet, Option, Play, Rec, Rewind, shown_with}
 use Rattle.track9.specs.Working.Deck.{Shuttle, Stop, Var, way_of}
 
 -- the pairs that have these shown modes for each goal
@@ -60,6 +60,13 @@ gone_with goal p g = if is_mode g goal then all_shown p else modes 0
 
 abbrev pub gone : Mode → List ModeSet → List ModeSet
 gone goal p = by_goal (gone_with goal p)
+
+-- these modes shown with a goal, if it is one of those, and with each of those
+abbrev pub shown_if : ModeSet → ModeSet → Mode → ModeSet
+shown_if goals shown g = if has goals.0 g then shown else modes 0
+
+abbrev pub pairs_of : ModeSet → ModeSet → List ModeSet
+pairs_of goals shown = by_goal (shown_if goals shown)
 
 -- the pairs of either
 abbrev pub joined : List ModeSet → List ModeSet → List ModeSet

@@ -4,7 +4,7 @@ use Rattle.track9.specs.Working.Pattern.{is_as_wanted}
 use Rattle.track9.specs.Working.Deck.{Bool, Change, Deck, Entries, entries_of, InPart, List, Mode, ModeSet, None, Option, Part, RegAudioIn}
 use Rattle.track9.specs.Working.Deck.{RegAudioOut, RegIn, Register, Rate, RegistersSet, RegOut, Some, State, Status, ℕ}
 use Rattle.track9.specs.Working.Entries.{agreeing, all_entries, changed, no_entries, set_entries, some_entry, widened}
-use Rattle.track9.specs.Working.Pairs.{all_pairs, drifted, gone, joined, masked, no_pairs, some_pair}
+use Rattle.track9.specs.Working.Pairs.{all_pairs, all_shown, drifted, gone, joined, masked, no_pairs, pairs_of, some_pair}
 
 -- no state, and every state
 abbrev pub no_states : Rate → Part
@@ -60,6 +60,13 @@ gone_pairs may_stay goal pairs = if may_stay then joined pairs (gone goal pairs)
 
 abbrev pub gone_part : Bool → Mode → Part → Part
 gone_part may_stay goal p = with_pairs (gone_pairs may_stay goal p.pairs) p
+
+-- the deck goes on as it was, or is commanded to one of these modes
+abbrev pub kept_or_gone : ModeSet → List ModeSet → List ModeSet
+kept_or_gone goals pairs = joined pairs (pairs_of goals (all_shown pairs))
+
+abbrev pub kept_or_gone_part : ModeSet → Part → Part
+kept_or_gone_part goals p = with_pairs (kept_or_gone goals p.pairs) p
 
 -- what becomes of a register's entries, or may where the deck may leave it
 abbrev pub changed_entries : Bool → Change → Entries → Entries

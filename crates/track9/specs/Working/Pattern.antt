@@ -100,7 +100,7 @@ panel_before hands.Allowed on t = if same_fact t.panel on then Some (record (jus
 abbrev pub pattern_before : Rate → Hands → Effect → State → Option Pattern
 pattern_before rate h effect.Nothing t = Some (just_state t)
 pattern_before rate h (effect.Go g) t = if is_mode t.goal g then Some (any_goal t) else None
-pattern_before rate h effect.KeepOrStop t = Some (if is_mode t.goal mode.Stop then any_goal t else just_state t)
+pattern_before rate h (effect.KeepOr goals) t = Some (if has goals.0 t.goal then any_goal t else just_state t)
 pattern_before rate h (effect.Change r c) t = option_map (λ o. with_wanted r o (just_state t)) (entry_before rate c (entry_of r t))
 pattern_before rate h (effect.Panel on) t = panel_before h on t
 pattern_before rate h effect.ForgetMotion t = Some (any_motion (just_state t))

@@ -3,7 +3,7 @@ use Rattle.std.specs.Prelude.{if◌then◌else◌}
 use Rattle.track9.specs.Working.Deck.{At, bit_of, Bool, Clear, Entries, Entry, false, has, just_of, List, Mode, modes, ModeSet, None, Option, Part, Rate, Some, States, true, Halves}
 use Rattle.track9.specs.Working.Pattern.{is_as_wanted}
 use Rattle.track9.specs.Working.Entries.{all_entries, entries}
-use Rattle.track9.specs.Working.Pairs.{by_goal}
+use Rattle.track9.specs.Working.Pairs.{pairs_of}
 use Rattle.track9.specs.Working.Parts.{no_states, settled}
 use Rattle.track9.specs.declared.start.Start.{Start}
 use Rattle.std.specs.FinSet as set
@@ -12,13 +12,6 @@ use Rattle.std.specs.FinSet as set
 abbrev pub modes_known : Option Mode → ModeSet
 modes_known None = modes 0x3FF
 modes_known (Some m) = modes (bit_of m)
-
--- these modes shown with a goal, if it is one of these, and all of them so
-abbrev pub shown_if : ModeSet → ModeSet → Mode → ModeSet
-shown_if goals shown g = if has goals.0 g then shown else modes 0
-
-abbrev pub pairs_of : ModeSet → ModeSet → List ModeSet
-pairs_of goals shown = by_goal (shown_if goals shown)
 
 -- the entry that is known, or any
 abbrev pub entries_known : Rate → Option Entry → Entries

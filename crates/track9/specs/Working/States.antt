@@ -1,7 +1,7 @@
 -- How a set of states changes.
 use Rattle.std.specs.Prelude.{if◌then◌else◌, ◌+◌, ◌||◌, ◌≡◌, ◌≤◌, ◌⊎◌}
 use Rattle.track9.specs.Working.Deck.{AreReached, begin_count, BelowDay, Block, Bool, CanPass, Change, Command, count_of, Deck, Does, Drift, Effect, effect_of, entries_of, false, Hands}
-use Rattle.track9.specs.Working.Deck.{in_local, InPart, is_nak, is_of_goal_or_register, Mode, None, Option, Part, Possible, Presets, Profile, Rate}
+use Rattle.track9.specs.Working.Deck.{in_local, InPart, is_nak, is_of_goal_or_register, Mode, ModeSet, None, Option, Part, Possible, Presets, Profile, Rate}
 use Rattle.track9.specs.Working.Deck.{presets_after, Register, SetAt, Some, State, States, Status, DeckStep, true, Halves, with_command, with_one, ℕ}
 use Rattle.block9.specs.declared.exchange.Exchange.{Exchange}
 use Rattle.track9.specs.Working.Deck.{Exchanges, Forgets, Forgotten, Tracked}
@@ -11,7 +11,7 @@ use Rattle.deck9.specs.declared.state.Hands.TheVariants as hands
 use Rattle.track9.specs.Frugal.{is_frugal, is_frugal_effect}
 use Rattle.track9.specs.Working.Entries.{agreeing}
 use Rattle.track9.specs.Working.Pairs.{all_pairs}
-use Rattle.track9.specs.Working.Parts.{Whole, all_states, aside, changed_entries, changed_part, drifted_part, forgotten_part, gone_part, part_remains, no_states, put_settled, rate_of, status_part, where_remains, with_pairs}
+use Rattle.track9.specs.Working.Parts.{Whole, all_states, aside, changed_entries, changed_part, drifted_part, forgotten_part, gone_part, kept_or_gone_part, part_remains, no_states, put_settled, rate_of, status_part, where_remains, with_pairs}
 
 -- ---- the states with one value of the panel
 
@@ -55,6 +55,10 @@ halves_drifted deck h = map_halves (λ local. drifted_part deck) h
 -- the deck is commanded to this mode, or leaves it where it may
 abbrev pub halves_gone : Bool → Mode → Halves → Halves
 halves_gone may_stay goal h = map_halves (λ local. where_remains (gone_part (local || may_stay) goal)) h
+
+-- the deck goes on as it was, or is commanded to one of these modes
+abbrev pub halves_kept_or_gone : ModeSet → Halves → Halves
+halves_kept_or_gone goals h = map_halves (λ local. where_remains (kept_or_gone_part goals)) h
 
 -- a register changes: in place in the part whose sets may be large, and aside in the other, which has no state left where the
 -- register is set at no time of the day

@@ -10,7 +10,7 @@ ghost use Rattle.track9.specs.Working.States.{HasEffect, Taken, HalvesWhole, is_
 use crate::deck_ref::DeckRef;
 use crate::halves::Halves;
 use block9::{Block, Command};
-use deck9::{Effect, Mode, Register, Sense, Status};
+use deck9::{Effect, Register, Sense, Status};
 use sets25::TimeSet;
 use std::alloc::{AllocError, Global};
 
@@ -124,7 +124,7 @@ impl<S: TimeSet> Halves<S> {
             Effect::Nothing => Ok(self.drift(deck)),
             Effect::Panel(_) => Ok(self.drift(deck)),
             Effect::Go(goal) => Ok(self.drift_and_go(deck, may_stay, goal)),
-            Effect::KeepOrStop => Ok(self.drift_and_go(deck, true, Mode::Stop)),
+            Effect::KeepOr(goals) => Ok(self.drift_and_keep_or_go(deck, goals)),
             Effect::Change(register, change) => {
                 self.below_day();
                 self.change(alloc, may_stay, register, &change)?;

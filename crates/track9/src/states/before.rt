@@ -3,6 +3,7 @@
 //! The states from which the step alone leads to the target are a pattern, or two of them. Whether a drift leads to a state of
 //! a pattern is asked factor by factor, so that no set is copied.
 ghost use Rattle.std.specs.Prelude.{◌≡◌, IfNone, IfSome, false, true};
+ghost use Rattle.deck9.specs.Drift.{Drift};
 ghost use Rattle.deck9.specs.State.{IsState};
 ghost use Rattle.deck9.specs.Step.{Exchanges};
 ghost use Rattle.track9.specs.Tracker.{Possible};
@@ -49,6 +50,19 @@ impl<S: TimeSet> States<S> {
         let effect = deck.effect(command);
         let wanted = Pattern::before(self.rate(), self.hands(), &effect, target)?;
         self.origin(deck, &wanted)
+    }
+
+    /// A state from which a drift leads to the target: None exactly where there is none. Takes no memory.
+    pub(crate) fn before_drift(&self, deck: &DeckRef, target: &State) -> Option<State>
+        requires { AreWhole (rate_for self.now) self.now }
+        ensures some { IfSome result (λ s. Possible self.now s × Drift (profile_of deck.now self.now) s target.now) }
+        ensures none { IfNone result (¬ ((s : AState) × Possible self.now s × Drift (profile_of deck.now self.now) s target.now)) }
+    {
+        self.below_day();
+        if !target.is_of(self.rate()) {
+            return None;
+        }
+        self.origin(deck, &Pattern::just(target))
     }
 
     /// A state from which a drift leads to the target, where a deck in LOCAL may ignore the command.

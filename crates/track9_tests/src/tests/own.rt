@@ -284,13 +284,29 @@ fn judge_forgets<S: TimeSet>(
     row: &ForgetsRow,
 ) -> Result<(), AllocError> {
     let (hands, named, before, last, told) = *row;
-    let profile = profile_of(alloc, hands, &Sheet { named, ways: &[] })?;
+    let profile = profile_of(
+        alloc,
+        hands,
+        &Sheet {
+            named,
+            goals: &[],
+            ways: &[],
+        },
+    )?;
     judge_with::<S>(rt, alloc, &profile, before, last, Some(told))
 }
 
 fn judge_ways<S: TimeSet>(rt: &impl Abort, alloc: Global, row: &WaysRow) -> Result<(), AllocError> {
     let (ways, before, last, told) = *row;
-    let profile = profile_of(alloc, Hands::None, &Sheet { named: &[], ways })?;
+    let profile = profile_of(
+        alloc,
+        Hands::None,
+        &Sheet {
+            named: &[],
+            goals: &[],
+            ways,
+        },
+    )?;
     judge_with::<S>(rt, alloc, &profile, before, last, told)
 }
 

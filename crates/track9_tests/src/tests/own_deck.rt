@@ -6,19 +6,30 @@ use std::alloc::{AllocError, Global};
 use std::collections::BTreeMap;
 use tc25::Rate;
 
-/// What is forgotten at the commands that are named: at those that are listed, or at those that are not.
+/// What is forgotten at the commands that are named: beside an effect of theirs, or alone.
 fn forgets_of(
     alloc: Global,
-    named: &[(u32, Forgotten)],
-    is_listed: bool,
+    sheet: &Sheet,
+    is_beside: bool,
 ) -> Result<BTreeMap<u32, Forgotten>, AllocError> {
     let mut forgets = BTreeMap::new(alloc);
-    for (head, forgotten) in named {
-        if LISTED_HEADS.contains(head) == is_listed {
+    for (head, forgotten) in sheet.named {
+        let has_goals = sheet.goals.iter().any(|(named, _)| named == head);
+        if (LISTED_HEADS.contains(head) || has_goals) == is_beside {
             forgets.insert(*head, *forgotten)?;
         }
     }
     Ok(forgets)
+}
+
+/// The modes that may become the goal at the commands that are named.
+fn goals_of(alloc: Global, named: &[(u32, Mode)]) -> Result<BTreeMap<u32, ModeSet>, AllocError> {
+    let mut goals = BTreeMap::new(alloc);
+    for (head, mode) in named {
+        let before = goals.get(head).copied().unwrap_or(ModeSet::NONE);
+        goals.insert(*head, before.or(ModeSet::just(*mode)))?;
+    }
+    Ok(goals)
 }
 
 /// The modes on the way to each goal: those of every deck, and these.
@@ -38,13 +49,15 @@ pub(super) fn profile_of(
     hands: Hands,
     sheet: &Sheet,
 ) -> Result<Profile, AllocError> {
-    let forgets = forgets_of(alloc, sheet.named, false)?;
-    let also_forgets = forgets_of(alloc, sheet.named, true)?;
+    let forgets = forgets_of(alloc, sheet, false)?;
+    let also_forgets = forgets_of(alloc, sheet, true)?;
+    let goals = goals_of(alloc, sheet.goals)?;
     Ok(Profile {
         rate: Rate::Fps25,
         hands,
         deck: Some(Deck {
             forgets,
+            goals,
             also_forgets,
             ways: ways_of(sheet.ways),
             names: BTreeMap::new(alloc),

@@ -80,6 +80,8 @@ pub(super) enum Small {
     Nothing,
     Go(Mode),
     GoOrKeep(Mode),
+    /// To one of the modes that the sheet names for the command with this head, or the goal is kept.
+    GoAsNamed(u32),
     Change(Register, Change),
     Panel(bool),
     AnyGoal,
@@ -190,7 +192,8 @@ pub(super) fn done(
     let mut after = *state;
     match (*small, way) {
         (Small::Move, _) => return moved(sheet, state, way),
-        (Small::Nothing, 0) | (Small::GoOrKeep(_), 0) => {}
+        (Small::Nothing, 0) | (Small::GoOrKeep(_), 0) | (Small::GoAsNamed(_), 0) => {}
+        (Small::GoAsNamed(head), _) => after.goal = sheet.goal_at(head, way.wrapping_sub(1))?,
         (Small::Go(goal), 0) | (Small::GoOrKeep(goal), 1) => after.goal = goal,
         (Small::Change(register, change), _) => {
             return changed(day, state, register, &change, way);

@@ -1,4 +1,4 @@
-//! Growths of memory that may be refused: `tests/growths.sh` runs these tests with each growth refused in turn.
+//! Growths of memory that may be refused: `tests/program/growths.sh` runs these tests with each growth refused in turn.
 //!
 //! Where none is refused they show that both kinds of sets give the answers that the program gives, over one of them, to the rows
 //! in `tests/cases/`; and that what follows brings no state back.

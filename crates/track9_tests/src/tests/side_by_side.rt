@@ -109,7 +109,7 @@ impl Run {
     /// Does what the command does, in ways that are drawn.
     fn follow(&mut self, command: &Command, reply: &Block) {
         if !self.leaves(command, reply) {
-            self.step(&small_of(command, self.hands));
+            self.step(&small_of(&NO_SHEET, command, self.hands));
             self.forget(command);
         }
     }

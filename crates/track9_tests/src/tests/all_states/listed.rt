@@ -322,7 +322,7 @@ impl<'a> ListedDeck<'a> {
             return Ok(());
         }
         self.keep(command, reply);
-        let small = small_of(command, self.hands);
+        let small = small_of(&self.sheet, command, self.hands);
         if !matches!(small, Small::Nothing) {
             self.step(&small, is_free_in_local(command))?;
         }

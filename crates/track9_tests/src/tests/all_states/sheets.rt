@@ -51,18 +51,46 @@ fn drawn_forgotten(draw: &mut Draw) -> Option<Forgotten> {
     }
 }
 
+/// Whether what is named to be forgotten at a command goes with goals that are named for it.
+fn goes_with_goals(forgotten: Forgotten) -> bool {
+    matches!(forgotten, Forgotten::Nothing | Forgotten::Registers)
+}
+
 fn drawn_names(
     alloc: Global,
     draw: &mut Draw,
     heads: &[u32],
+    goals: &[(u32, Mode)],
 ) -> Result<Vec<(u32, Forgotten)>, AllocError> {
     let mut named = Vec::new(alloc);
     for head in heads {
-        if let Some(forgotten) = drawn_forgotten(draw) {
-            named.push((*head, forgotten))?;
+        let has_goals = goals.iter().any(|(other, _)| other == head);
+        match drawn_forgotten(draw) {
+            Some(forgotten) if !has_goals || goes_with_goals(forgotten) => {
+                named.push((*head, forgotten))?;
+            }
+            _ => {}
         }
     }
     Ok(named)
+}
+
+/// Up to three modes for some of these commands, those of group 2 that are not listed, each of which may become the goal there.
+fn drawn_goals(
+    alloc: Global,
+    draw: &mut Draw,
+    heads: &[u32],
+) -> Result<Vec<(u32, Mode)>, AllocError> {
+    let mut goals = Vec::new(alloc);
+    for head in heads {
+        let may_have_some = *head / 0x10_00 == 2 && !LISTED_HEADS.contains(head);
+        if may_have_some && draw.one_in(2) {
+            for _ in 0..draw.below(4) {
+                goals.push((*head, draw.mode()))?;
+            }
+        }
+    }
+    Ok(goals)
 }
 
 /// A goal, STOP more often than each other one.
@@ -88,14 +116,17 @@ fn drawn_ways(alloc: Global, draw: &mut Draw) -> Result<Vec<(Mode, Mode)>, Alloc
 #[derive(Drop)]
 struct DrawnSheet {
     named: Vec<(u32, Forgotten)>,
+    goals: Vec<(u32, Mode)>,
     ways: Vec<(Mode, Mode)>,
 }
 
 impl DrawnSheet {
     /// A sheet that may name these commands.
     fn new(alloc: Global, draw: &mut Draw, heads: &[u32]) -> Result<DrawnSheet, AllocError> {
+        let goals = drawn_goals(alloc, draw, heads)?;
         Ok(DrawnSheet {
-            named: drawn_names(alloc, draw, heads)?,
+            named: drawn_names(alloc, draw, heads, goals.as_slice())?,
+            goals,
             ways: drawn_ways(alloc, draw)?,
         })
     }
@@ -103,6 +134,7 @@ impl DrawnSheet {
     fn sheet(&self) -> Sheet {
         Sheet {
             named: self.named.as_slice(),
+            goals: self.goals.as_slice(),
             ways: self.ways.as_slice(),
         }
     }

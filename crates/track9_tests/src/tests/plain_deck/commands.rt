@@ -97,8 +97,11 @@ pub(in crate::tests) const FORGETTABLE: [Small; 8] = [
     Small::AnyPanel,
 ];
 
-/// What a listed command does where it is done.
-pub(in crate::tests) fn small_of(command: &Command, hands: Hands) -> Small {
+/// What a command does where it is done, beside what is forgotten.
+pub(in crate::tests) fn small_of(sheet: &Sheet, command: &Command, hands: Hands) -> Small {
+    if sheet.has_goals(command) {
+        return Small::GoAsNamed(head_of(command));
+    }
     if let Some((register, change)) = change_of(command) {
         return Small::Change(register, change);
     }
@@ -134,6 +137,7 @@ pub(in crate::tests) fn forgets(
 ) -> bool {
     match sheet.named_for(command) {
         Some(named) => forgets_named(named, hands, forgotten),
+        None if sheet.has_goals(command) => false,
         None => forgets_by_group(command, hands, forgotten),
     }
 }

@@ -10,6 +10,9 @@ pub(in crate::tests) struct Sheet<'a> {
     /// What it forgets at commands, by the first two bytes of their blocks: at one that is listed beside its effect. No two are
     /// the same.
     pub(in crate::tests) named: &'a [(u32, Forgotten)],
+    /// Commands that are not listed, by the same two bytes, each with a mode that may become its goal. What is named to be forgotten
+    /// at one of these is nothing but the registers.
+    pub(in crate::tests) goals: &'a [(u32, Mode)],
     /// Goals, each with a mode that may be shown on the way to it beside those of every deck.
     pub(in crate::tests) ways: &'a [(Mode, Mode)],
 }
@@ -17,6 +20,7 @@ pub(in crate::tests) struct Sheet<'a> {
 /// A deck does nothing of its own.
 pub(in crate::tests) const NO_SHEET: Sheet<'static> = Sheet {
     named: &[],
+    goals: &[],
     ways: &[],
 };
 
@@ -30,6 +34,25 @@ impl<'a> Sheet<'a> {
             }
         }
         None
+    }
+
+    /// The mode at a place, counted from 0, of those that may become the goal at the command with this head.
+    pub(super) fn goal_at(&self, head: u32, place: usize) -> Option<Mode> {
+        let mut rest = place;
+        for (named, mode) in self.goals {
+            if *named == head && rest == 0 {
+                return Some(*mode);
+            }
+            if *named == head {
+                rest = rest.saturating_sub(1);
+            }
+        }
+        None
+    }
+
+    /// Whether a command may lead to some of them.
+    pub(super) fn has_goals(&self, command: &Command) -> bool {
+        self.goal_at(head_of(command), 0).is_some()
     }
 
     /// Whether it names a listed command.
@@ -67,5 +90,6 @@ impl<'a> Sheet<'a> {
     /// No small step can be done in more ways.
     pub(in crate::tests) fn most_ways(&self) -> usize {
         WAYS.saturating_add(self.ways.len())
+            .saturating_add(self.goals.len())
     }
 }

@@ -22,9 +22,10 @@ returns c =
     let with_Clock = c.in_ok-command-13.ensures ∙ ap (λ app. with_verb names app verb.Clock) with_JsonWhy in
     let with_Info = c.in_ok-command-14.ensures ∙ ap (λ app. with_verb names app verb.Info) with_Clock in
     let with_Try = c.in_ok-command-15.ensures ∙ ap (λ app. with_verb names app verb.Try) with_Info in
-    let with_Picture = c.in_ok-command-16.ensures ∙ ap (λ app. with_verb names app verb.Picture) with_Try in
-    let with_Page = c.in_ok-command-17.ensures ∙ ap (λ app. with_verb names app verb.Page) with_Picture in
-    let with_ConvertSigrok = c.in_ok-command-18.ensures ∙ ap (λ app. with_verb names app verb.ConvertSigrok) with_Page in
-    let with_ConvertSaleae = c.in_ok-command-19.ensures ∙ ap (λ app. with_verb names app verb.ConvertSaleae) with_ConvertSigrok in
-    let with_ConvertLog = c.in_ok-command-20.ensures ∙ ap (λ app. with_verb names app verb.ConvertLog) with_ConvertSaleae in
-    IfOk-weaker c.with_verb-21.result _ _ (λ command is. is ∙ ap (λ app. with_verb names app verb.Split) with_ConvertLog) c.with_verb-21.ensures
+    let with_Touches = c.in_ok-command-16.ensures ∙ ap (λ app. with_verb names app verb.Touches) with_Try in
+    let with_Picture = c.in_ok-command-17.ensures ∙ ap (λ app. with_verb names app verb.Picture) with_Touches in
+    let with_Page = c.in_ok-command-18.ensures ∙ ap (λ app. with_verb names app verb.Page) with_Picture in
+    let with_ConvertSigrok = c.in_ok-command-19.ensures ∙ ap (λ app. with_verb names app verb.ConvertSigrok) with_Page in
+    let with_ConvertSaleae = c.in_ok-command-20.ensures ∙ ap (λ app. with_verb names app verb.ConvertSaleae) with_ConvertSigrok in
+    let with_ConvertLog = c.in_ok-command-21.ensures ∙ ap (λ app. with_verb names app verb.ConvertLog) with_ConvertSaleae in
+    IfOk-weaker c.with_verb-22.result _ _ (λ command is. is ∙ ap (λ app. with_verb names app verb.Split) with_ConvertLog) c.with_verb-22.ensures

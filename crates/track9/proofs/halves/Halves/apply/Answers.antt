@@ -16,9 +16,9 @@ pub returns-in-Go-clause-ok : goal.returns-in-Go-clause-ok
 returns-in-Go-clause-ok g c = rw (sym c.effect.ensures ∙ c.in-Go.is, c.drift_and_go.ensures.gone)
     (has_effect c.args.deck.now (rate_in c.args.self.now) c.args.may_stay (effect.Go c.in-Go.goal) (halves_drifted c.args.deck.now c.args.self.now) refl (drift_whole c.args.deck.now (rate_in c.args.self.now) c.args.self.now c.requires) (λ l. tt))
 
-pub returns-in-KeepOrStop-clause-ok : goal.returns-in-KeepOrStop-clause-ok
-returns-in-KeepOrStop-clause-ok g c = rw (sym c.effect.ensures ∙ c.in-KeepOrStop.is, c.drift_and_go-in-KeepOrStop.ensures.gone)
-    (has_effect c.args.deck.now (rate_in c.args.self.now) c.args.may_stay effect.KeepOrStop (halves_drifted c.args.deck.now c.args.self.now) refl (drift_whole c.args.deck.now (rate_in c.args.self.now) c.args.self.now c.requires) (λ l. tt))
+pub returns-in-KeepOr-clause-ok : goal.returns-in-KeepOr-clause-ok
+returns-in-KeepOr-clause-ok g c = rw (sym c.effect.ensures ∙ c.in-KeepOr.is, c.drift_and_keep_or_go.ensures.gone)
+    (has_effect c.args.deck.now (rate_in c.args.self.now) c.args.may_stay (effect.KeepOr c.in-KeepOr.goals) (halves_drifted c.args.deck.now c.args.self.now) refl (drift_whole c.args.deck.now (rate_in c.args.self.now) c.args.self.now c.requires) (λ l. tt))
 
 pub returns-in_ok-change-in-Change-clause-ok : goal.returns-in_ok-change-in-Change-clause-ok
 returns-in_ok-change-in-Change-clause-ok g c = rw (sym c.effect.ensures ∙ c.in-Change.is, c.drift-in-Change.ensures.drifted, (c.in_ok-change-in-Change).ensures.ok)

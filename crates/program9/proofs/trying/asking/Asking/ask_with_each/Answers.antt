@@ -5,11 +5,11 @@ use Rattle.program9.proofs.trying.asking.Asking.ask_with_each.Goals as goal
 pub loop-terms-preserved : goal.loop-terms-preserved
 loop-terms-preserved g c =
     let now = c.loop-terms.invariant in
-    let checked = rw (now.scope, now.deck, now.kept) at c.ask-answer.ensures.checked in
+    let checked = rw (now.scope, now.deck, now.text) at c.ask-answer.ensures.checked in
     record {
       plain = c.ask-answer.ensures.plain;
       deck = c.ask-answer.ensures.deck ∙ now.deck;
       scope = c.ask-answer.ensures.scope ∙ now.scope;
-      kept = c.ask-answer.ensures.kept ∙ now.kept;
+      text = c.ask-answer.ensures.text ∙ now.text;
       are = rw c.in_ok-push.ensures.items (one_more _ _ _ _ _ _ _ c.ask-answer.result (grind (arith, c.loop-terms-test.true)) now.are c.ask-answer.ensures.terms checked);
     }

@@ -8,6 +8,6 @@ invariant-loop-terms g l = record {
   plain : l.self.plain.deck ≡ None;
   deck : l.self.with_sheet.deck ≡ l.fn.self.with_sheet.deck;
   scope : l.self.scope ≡ l.fn.self.scope;
-  kept : l.self.kept ≡ l.fn.self.kept;
-  are : AreAnswers l.fn.self.scope l.fn.self.with_sheet.deck l.fn.self.kept.now.text.items (take l.terms-index l.all) l.answers.items;
+  text : l.self.text ≡ l.fn.self.text;
+  are : AreAnswers l.fn.self.scope l.fn.self.with_sheet.deck l.fn.self.text.now (take l.terms-index l.all) l.answers.items;
 }

@@ -1,0 +1,121 @@
+"""Runs the program on the cases that cases.awk made of the tables: cases.py PROGRAM FOLDER. What is wrong stands before the last line,
+'N passed, M failed'.
+
+The whole of what comes must be that of the case. Beside that check, explain, run and why, each with hands and at a rate where they are
+asked for, must end with the same status as what is asked, with the same last line where there is a verdict, and with the same standard
+error. With --all check, explain and why must write the same first, and of a yes the totals in its place. Where --all is asked for
+itself, all three must have the same breaks, totals, status and standard error. This is not tried where the words are at fault or a file
+is not opened. Of a view (digest, delays, motion, json) `check` must end with the same status and the same standard error.
+"""
+import functools
+import os
+import pathlib
+import re
+import subprocess
+import sys
+from concurrent.futures import ThreadPoolExecutor
+
+PROGRAM, FOLDER = sys.argv[1:]
+
+
+class Case:
+    def __init__(self, place):
+        self.place = place
+        self.table = pathlib.Path(place).parent.name
+        self.name = self.part('name').decode()
+        self.wanted = int(self.part('status')), self.part('out'), self.part('err')
+        self.ask = functools.cache(self.ask)
+
+    def part(self, name):
+        return pathlib.Path(f'{self.place}.{name}').read_bytes()
+
+    def ask(self, words):
+        """What comes of these words on the capture: the status and both streams. `why` is asked without what to ask next, but for a
+        case that has something on standard error."""
+        if not self.wanted[2]:
+            words = re.sub('^why(?!.* --quiet)', 'why --quiet', words)
+        with open(f'{self.place}.csv', 'rb') as capture:
+            done = subprocess.run([PROGRAM, *words.split()], stdin=capture, capture_output=True)
+        return done.returncode, done.stdout, done.stderr
+
+    def judge(self):
+        """The name of each check, and what came instead where it failed."""
+        for words in self.part('words').decode().splitlines():
+            yield words, self.instead(words, self.wanted)
+            if self.wanted[0] not in (0, 1, 3):
+                continue
+            verb = words.split()[0]
+            if verb in ('digest', 'delays', 'motion', 'json'):
+                yield f'{words}, as check ends', self.view_ends(words)
+            elif verb not in ('clock', 'info'):
+                yield f'{words}, and what else can be asked', self.ends_so(words)
+
+    def instead(self, words, wanted):
+        came = self.ask(words)
+        return None if came == wanted else f'{words}\nwanted {wanted}\ncame {came}'
+
+    def view_ends(self, words):
+        """With those of these words that it takes, `check` ends so too."""
+        kept = [word for word in words.split()[1:] if re.match('--(hands|sync|all)$|--(rate|deck)=', word)]
+        asked = ' '.join(['check', *kept])
+        status, _, err = self.ask(asked)
+        return None if (status, err) == (self.wanted[0], self.wanted[2]) else f'{asked}\ncame {status, err}'
+
+    def ends_so(self, words):
+        """Whatever is asked of this capture, with hands, at a rate, and to its end or not as these words say, the end is the same."""
+        options = (' --hands' if '--hands' in words.split() else '') + ''.join(re.findall(' --rate [^ ]+', words)[:1])
+        for verb in 'check', 'explain', 'run', 'why':
+            in_parts = f'{verb} --all{options}'
+            if '--all' in words.split():
+                asked = [(in_parts, self.has_same_breaks)] if verb != 'run' else []
+            else:
+                asked = [(verb + options, functools.partial(self.is_end, verb))]
+                if verb != 'run':
+                    asked.append((in_parts, functools.partial(self.goes_on, verb + options)))
+            for what, is_right in asked:
+                if not is_right(*self.ask(what)):
+                    return f'{what}\ncame {self.ask(what)}'
+
+    def is_end(self, verb, status, out, err):
+        """Where there is a verdict it is the last line, and else check, run and why write nothing."""
+        if (status, err) != (self.wanted[0], self.wanted[2]):
+            return False
+        return last_line(out) == last_line(self.wanted[1]) if status in (0, 1) else verb == 'explain' or not out
+
+    def goes_on(self, without, status, out, err):
+        """What is written is what is written without --all, and after a break what comes after it."""
+        alone = self.ask(without)[1]
+        if self.wanted[0] == 0:
+            totals = re.sub(rb'\nyes: (.*), (open .*)\n$', rb'\nbreaks 0: \1, passed over 0, \2\n', b'\n' + alone)[1:]
+            return (status, out, err) == (0, totals, b'')
+        if self.wanted[0] == 1:
+            more = status == 1 and re.match(b'breaks [1-9]', last_line(out)) or status == 3 and err
+            return out.startswith(alone) and bool(more)
+        return (status, out, err) == (self.wanted[0], alone, self.wanted[2])
+
+    def has_same_breaks(self, status, out, err):
+        return (status, err, breaks(out)) == (self.wanted[0], self.wanted[2], breaks(self.wanted[1]))
+
+
+def last_line(text):
+    return text.removesuffix(b'\n').rsplit(b'\n', 1)[-1]
+
+
+def breaks(text):
+    return re.findall(b'^(?:no at record|breaks) .*', text, re.M)
+
+
+def main():
+    cases = [Case(str(name)[:-len('.name')]) for name in sorted(pathlib.Path(FOLDER).glob('*/*.name'))]
+    passed = failed = 0
+    with ThreadPoolExecutor(os.cpu_count()) as pool:
+        for case, judged in zip(cases, pool.map(lambda case: list(case.judge()), cases)):
+            for name, instead in judged:
+                passed += instead is None
+                failed += instead is not None
+                if instead is not None:
+                    print(f'FAILED {case.table}: {case.name}, {name}\n{instead}')
+    print(f'{passed} passed, {failed} failed')
+
+
+main()

@@ -1,0 +1,90 @@
+#!/usr/bin/env bash
+# Draws captures, and compares what the built program says of them with the plain deck of tests/lib/deck.awk. The last line is
+# 'N passed, M failed'.
+set -u
+cd "$(dirname "$0")/../.." || exit 1
+. tests/lib/judge.sh
+. tests/lib/program.sh
+. tests/lib/blocks.sh
+
+awk=${AWK:-awk}
+
+# How many captures are drawn, every second of them with hands.
+drawn=2400
+
+# What the program says of each capture of the list.
+ask() {
+    local number hands words
+    while read -r number hands _; do
+        words=
+        [ "$hands" = 0 ] || words=--hands
+        echo "capture $number"
+        echo '- check'
+        "$program" check "$work/$number.csv"
+        echo '- check --hands'
+        "$program" check --hands "$work/$number.csv"
+        echo '- why'
+        # shellcheck disable=SC2086
+        "$program" why --quiet $words "$work/$number.csv"
+        echo '- run'
+        "$program" run "$work/$number.csv"
+        echo '- run --hands'
+        "$program" run --hands "$work/$number.csv"
+    done 2>&1
+}
+
+# compare RESULTS [WORDS...]: what the plain deck says to them.
+compare() {
+    local results=$1
+    shift
+    "$awk" "$@" -f tests/lib/deck.awk -f tests/judging/list.awk -f tests/judging/drawn.awk "$work/list" "$results"
+}
+
+# spoil HOW: results that are spoilt in this way.
+spoil() {
+    "$awk" -v how="$1" -f tests/lib/deck.awk -f tests/judging/list.awk -f tests/judging/spoiling.awk "$work/list" "$work/results" > "$work/spoilt"
+}
+
+# is_refused ALL [WORDS...]: the comparison, with these words, refuses all of the spoilt results, or none; they are ten at least.
+is_refused() {
+    local all=$1 captures
+    shift
+    captures=$(grep -c '^capture ' "$work/spoilt")
+    [ "$captures" -ge 10 ] && compare "$work/spoilt" "$@" | grep -qx "captures $captures, refused $((all * captures))"
+}
+
+# at_least LEAST LABEL N: that many captures were drawn.
+at_least() {
+    [ "$(sed -nE "s/^$2 without hands ([0-9]+), with hands ([0-9]+), .*/\\$3/p" "$work/compared")" -ge "$1" ]
+}
+
+draw_captures $drawn "$work" > "$work/list"
+# A processor asks of a part of them.
+split -n "l/$(nproc)" "$work/list" "$work/part-"
+for part in "$work"/part-*; do ask < "$part" > "$part.results" & done
+wait
+cat "$work"/part-*.results > "$work/results"
+compare "$work/results" -v fewest=yes > "$work/compared"
+cat "$work/compared"
+
+# Each capture is a case.
+refused=$(sed -n 's/^captures [0-9]*, refused //p' "$work/compared")
+passed=$((drawn - ${refused:-$drawn}))
+failed=${refused:-$drawn}
+judge 'all were compared' grep -q "^captures $drawn, " "$work/compared"
+judge 'captures without hands that are a no' at_least 500 'no run' 1
+judge 'captures with hands that are a no' at_least 500 'no run' 2
+judge 'captures without hands that are a yes' at_least 500 yes 1
+judge 'captures with hands that are a yes' at_least 500 yes 2
+compared=$(sed -n 's/^runs of a yes without hands, compared with those with hands: //p' "$work/compared")
+judge 'captures that nobody has to touch' [ "${compared:-0}" -ge 1000 ]
+
+for how in left-out added earlier shown register local says time record yes state other-run panel; do
+    spoil "$how"
+    judge "results that are wrong: $how" is_refused 1
+done
+spoil hand
+judge 'runs with more moves of a hand than needed, where the fewest are wanted' is_refused 1 -v fewest=yes
+judge 'the same, where any run will do' is_refused 0
+
+tell_counts
