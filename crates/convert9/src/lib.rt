@@ -16,8 +16,6 @@ mod saleae;
 mod seconds;
 mod sigrok;
 mod split;
-#[cfg(test)]
-mod tests;
 mod write;
 
 pub use fault::{ConvertFault, Refusal, Wrong};

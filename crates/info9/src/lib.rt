@@ -19,8 +19,6 @@ mod sign;
 mod signs;
 mod silence;
 mod step;
-#[cfg(test)]
-mod tests;
 mod text;
 mod told;
 mod turns;

@@ -1,6 +1,6 @@
 //! How a command of the program is asked again of the capture that the page shows.
 
-use picture9::{Done, Markup};
+use picture9::Markup;
 
 /// What stands behind a command of the program, as a shell takes it.
 #[derive(Clone, Copy)]
@@ -15,27 +15,27 @@ pub(crate) struct Again<'a> {
 
 impl Again<'_> {
     /// Puts a command that judges the same capture with the same options.
-    pub(crate) fn put(&self, html: &mut Markup, subcommand: &'static str) -> Done {
-        html.put_mark("ninecheck ")?;
-        html.put_mark(subcommand)?;
-        put_word(html, self.options)?;
-        put_word(html, self.file)
+    pub(crate) fn put(&self, html: &mut Markup, subcommand: &'static str) {
+        html.put_mark("ninecheck ");
+        html.put_mark(subcommand);
+        put_word(html, self.options);
+        put_word(html, self.file);
     }
 
     /// Puts the command that makes the same page.
-    pub(crate) fn put_page(&self, html: &mut Markup) -> Done {
-        html.put_mark("ninecheck page")?;
-        put_word(html, self.options)?;
-        put_word(html, self.stretch)?;
-        put_word(html, self.file)
+    pub(crate) fn put_page(&self, html: &mut Markup) {
+        html.put_mark("ninecheck page");
+        put_word(html, self.options);
+        put_word(html, self.stretch);
+        put_word(html, self.file);
     }
 }
 
 /// Puts a blank and words, where there are some.
-fn put_word(html: &mut Markup, words: &[u8]) -> Done {
+fn put_word(html: &mut Markup, words: &[u8]) {
     if words.is_empty() {
-        return Ok(());
+        return;
     }
-    html.put_mark(" ")?;
-    html.put_foreign(words)
+    html.put_mark(" ");
+    html.put_foreign(words);
 }

@@ -2,7 +2,7 @@
 
 use crate::html::put_padded;
 use crate::span::Span;
-use picture9::{Done, Markup};
+use picture9::Markup;
 
 /// How many ticks there are at most.
 const MOST_TICKS: u64 = 11;
@@ -112,26 +112,26 @@ impl Axis {
     }
 
     /// Puts the time of a tick.
-    pub(crate) fn put_tick(self, html: &mut Markup, us: u64) -> Done {
+    pub(crate) fn put_tick(self, html: &mut Markup, us: u64) {
         let seconds = us / 1_000_000;
         match self.clock {
-            Clock::Seconds => html.put_whole("", seconds)?,
-            Clock::Minutes => html.put_whole("", seconds / 60)?,
+            Clock::Seconds => html.put_whole("", seconds),
+            Clock::Minutes => html.put_whole("", seconds / 60),
             Clock::Hours => {
-                html.put_whole("", seconds / 3_600)?;
-                html.put_mark(":")?;
-                put_padded(html, seconds / 60 % 60, 2)?;
+                html.put_whole("", seconds / 3_600);
+                html.put_mark(":");
+                put_padded(html, seconds / 60 % 60, 2);
             }
         }
         if self.clock != Clock::Seconds {
-            html.put_mark(":")?;
-            put_padded(html, seconds % 60, 2)?;
+            html.put_mark(":");
+            put_padded(html, seconds % 60, 2);
         }
-        self.put_decimals(html, us)
+        self.put_decimals(html, us);
     }
 
     /// Puts as many decimals of a tick's seconds as the step has.
-    fn put_decimals(self, html: &mut Markup, us: u64) -> Done {
+    fn put_decimals(self, html: &mut Markup, us: u64) {
         let (places, unit_us) = match self.step_us {
             0..10 => (6, 1),
             10..100 => (5, 10),
@@ -139,10 +139,10 @@ impl Axis {
             1_000..10_000 => (3, 1_000),
             10_000..100_000 => (2, 10_000),
             100_000..1_000_000 => (1, 100_000),
-            _ => return Ok(()),
+            _ => return,
         };
-        html.put_mark(".")?;
-        put_padded(html, us % 1_000_000 / unit_us, places)
+        html.put_mark(".");
+        put_padded(html, us % 1_000_000 / unit_us, places);
     }
 }
 

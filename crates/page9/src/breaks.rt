@@ -181,7 +181,7 @@ impl<'a> Breaks<'a> {
         self.replies = self.replies.saturating_add(kept);
         let mut entry = Listed::new(self.alloc, id, broken);
         let time_us = broken.time_us;
-        put_sentence(&mut entry.sentence, self.profile, why, time_us)?;
+        put_sentence(&mut entry.sentence, self.profile, why, time_us);
         put_why(&mut entry.why, self.profile, why, most)?;
         put_list(&mut entry.replies, &mut self.times, self.profile, why, most)?;
         Ok(self.listed.push(entry)?)

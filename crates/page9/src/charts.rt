@@ -1,7 +1,7 @@
 //! The charts of traffic and of the delays of replies: steps over bins of time.
 
 use crate::bins::{Bin, DrawnBins, LateDot, MOST_DRAWN_US};
-use crate::html::{begin_path, end_path, put_clock, put_fixed, put_thousands};
+use crate::html::{begin_path, end_path, put_clock};
 use crate::mark_rows::{put_mark_html, put_more};
 use crate::session::{begin_lane, begin_lane_chart};
 use crate::span::{Span, Window};
@@ -34,14 +34,14 @@ pub(crate) fn put_traffic(html: &mut Markup, span: Span, bins: &DrawnBins) -> Do
     let greatest = greatest_rate(bins, span.lasts_us());
     let most = round_above(greatest.saturating_mul(11) / 10);
     let steps = traffic_steps(html.alloc(), bins, span.lasts_us(), most)?;
-    begin_lane(html, "")?;
-    html.put_mark("<b>Traffic</b> <span>exchanges a second in bins of ")?;
-    put_width(html, bins.width_us)?;
-    html.put_mark("</span>")?;
-    begin_lane_chart(html, TRAFFIC_TALL)?;
-    html.put_mark("Traffic: exchanges a second over time, at most ")?;
-    put_rate(html, greatest)?;
-    html.put_mark("</title><use href=\"#g\"/>\n")?;
+    begin_lane(html, "");
+    html.put_mark("<b>Traffic</b> <span>exchanges a second in bins of ");
+    put_width(html, bins.width_us);
+    html.put_mark("</span>");
+    begin_lane_chart(html, TRAFFIC_TALL);
+    html.put_mark("Traffic: exchanges a second over time, at most ");
+    put_rate(html, greatest);
+    html.put_mark("</title><use href=\"#g\"/>\n");
     put_steps(
         html,
         span,
@@ -49,21 +49,23 @@ pub(crate) fn put_traffic(html: &mut Markup, span: Span, bins: &DrawnBins) -> Do
         &steps,
         "traf",
         Some(TRAFFIC_TALL),
-    )?;
-    put_steps(html, span, bins.width_us, &steps, "tline", None)?;
-    html.put_mark("</svg></div>\n<div class=\"scale\"><span class=\"top\">")?;
-    put_rate(html, most)?;
-    html.put_mark("</span><span class=\"foot\">0</span></div></div>\n")
+    );
+    put_steps(html, span, bins.width_us, &steps, "tline", None);
+    html.put_mark("</svg></div>\n<div class=\"scale\"><span class=\"top\">");
+    put_rate(html, most);
+    html.put_mark("</span><span class=\"foot\">0</span></div></div>\n");
+    Ok(())
 }
 
 /// Puts how wide bins are.
-fn put_width(html: &mut Markup, width_us: u64) -> Done {
+fn put_width(html: &mut Markup, width_us: u64) {
     if width_us < 1_000_000 {
-        html.put_whole("", width_us / 1_000)?;
-        return html.put_mark(" ms");
+        html.put_whole("", width_us / 1_000);
+        html.put_mark(" ms");
+        return;
     }
-    put_thousands(html, width_us / 1_000_000)?;
-    html.put_mark(" s")
+    html.put_thousands(width_us / 1_000_000);
+    html.put_mark(" s");
 }
 
 /// How many exchanges a second there are in a bin.
@@ -123,30 +125,31 @@ pub(crate) fn put_delay_lane(
     bins: &DrawnBins,
 ) -> Done {
     let has_late = bins.bins.as_slice().iter().any(|bin| bin.slowest.is_some());
-    begin_lane(html, "")?;
+    begin_lane(html, "");
     html.put_mark(
         "<b>Reply delay</b> <span>&micro;s: <span class=\"of-great\">greatest</span> and \
         <span class=\"of-mid\">middle</span> in bins of ",
-    )?;
-    put_width(html, bins.width_us)?;
+    );
+    put_width(html, bins.width_us);
     html.put_mark(if has_late {
         ", <span class=\"bad\">late replies</span></span>"
     } else {
         "</span>"
-    })?;
-    begin_lane_chart(html, DELAYS_TALL)?;
-    html.put_mark("Reply delay over time: the greatest and the middle of each bin</title>")?;
-    html.put_mark("<desc>From 0 to 14,000 microseconds, with the limit of ")?;
-    put_thousands(html, REPLY_LIMIT_US)?;
-    html.put_mark(". The numbers stand under Delays by command.</desc><use href=\"#g\"/>\n")?;
+    });
+    begin_lane_chart(html, DELAYS_TALL);
+    html.put_mark("Reply delay over time: the greatest and the middle of each bin</title>");
+    html.put_mark("<desc>From 0 to 14,000 microseconds, with the limit of ");
+    html.put_thousands(REPLY_LIMIT_US);
+    html.put_mark(". The numbers stand under Delays by command.</desc><use href=\"#g\"/>\n");
     put_delay_lines(html, span, bins)?;
-    html.put_mark("</svg>\n")?;
-    put_dots(html, span, window, bins)?;
+    html.put_mark("</svg>\n");
+    put_dots(html, span, window, bins);
     html.put_mark(
         "</div><div class=\"scale\"><span class=\"top\">14,000</span><span class=\"at-limit\">",
-    )?;
-    put_thousands(html, REPLY_LIMIT_US)?;
-    html.put_mark(" limit</span><span class=\"foot\">0</span></div></div>\n")
+    );
+    html.put_thousands(REPLY_LIMIT_US);
+    html.put_mark(" limit</span><span class=\"foot\">0</span></div></div>\n");
+    Ok(())
 }
 
 /// Puts the lines of delays, and the limit.
@@ -160,14 +163,15 @@ fn put_delay_lines(html: &mut Markup, span: Span, bins: &DrawnBins) -> Done {
         &greatest,
         "great",
         Some(DELAYS_TALL),
-    )?;
-    put_steps(html, span, bins.width_us, &greatest, "gline", None)?;
-    put_steps(html, span, bins.width_us, &middle, "mid", None)?;
-    begin_path(html, "limit")?;
-    html.put_mark("M0 ")?;
-    put_fixed(html, delay_y(REPLY_LIMIT_US), 1)?;
-    html.put_mark("H1000")?;
-    end_path(html)
+    );
+    put_steps(html, span, bins.width_us, &greatest, "gline", None);
+    put_steps(html, span, bins.width_us, &middle, "mid", None);
+    begin_path(html, "limit");
+    html.put_mark("M0 ");
+    html.put_fixed(delay_y(REPLY_LIMIT_US), 1);
+    html.put_mark("H1000");
+    end_path(html);
+    Ok(())
 }
 
 /// The heights of delays: none where a bin has no reply.
@@ -207,39 +211,33 @@ fn put_steps(
     steps: &Steps,
     look: &'static str,
     foot: Option<u64>,
-) -> Done {
-    begin_path(html, look)?;
+) {
+    begin_path(html, look);
     let mut is_open = false;
     let mut from_us = 0u64;
     for height in steps.heights.as_slice() {
         if let Some(height) = *height {
-            begin_step(html, span, from_us, is_open, foot)?;
-            put_fixed(html, height, 1)?;
+            begin_step(html, span, from_us, is_open, foot);
+            html.put_fixed(height, 1);
         } else if is_open {
-            end_step(html, span, from_us, foot)?;
+            end_step(html, span, from_us, foot);
         }
         is_open = height.is_some();
         from_us = from_us.saturating_add(width_us);
     }
     if is_open {
-        end_step(html, span, span.lasts_us(), foot)?;
+        end_step(html, span, span.lasts_us(), foot);
     }
-    end_path(html)
+    end_path(html);
 }
 
 /// Begins a step at a bin's beginning: goes on to it from the one before, where one is open.
-fn begin_step(
-    html: &mut Markup,
-    span: Span,
-    from_us: u64,
-    is_open: bool,
-    foot: Option<u64>,
-) -> Done {
-    html.put_mark(if is_open { "H" } else { "M" })?;
-    span.put_x(html, from_us)?;
+fn begin_step(html: &mut Markup, span: Span, from_us: u64, is_open: bool, foot: Option<u64>) {
+    html.put_mark(if is_open { "H" } else { "M" });
+    span.put_x(html, from_us);
     match (is_open, foot) {
         (false, Some(foot)) => {
-            html.put_whole(" ", foot)?;
+            html.put_whole(" ", foot);
             html.put_mark("V")
         }
         (false, None) => html.put_mark(" "),
@@ -248,46 +246,44 @@ fn begin_step(
 }
 
 /// Ends a step, and closes the area.
-fn end_step(html: &mut Markup, span: Span, to_us: u64, foot: Option<u64>) -> Done {
-    html.put_mark("H")?;
-    span.put_x(html, to_us)?;
+fn end_step(html: &mut Markup, span: Span, to_us: u64, foot: Option<u64>) {
+    html.put_mark("H");
+    span.put_x(html, to_us);
     if let Some(foot) = foot {
-        html.put_whole("V", foot)?;
-        html.put_mark("Z")?;
+        html.put_whole("V", foot);
+        html.put_mark("Z");
     }
-    Ok(())
 }
 
 /// Puts a dot for the slowest late reply of each bin.
-fn put_dots(html: &mut Markup, span: Span, window: Window, bins: &DrawnBins) -> Done {
+fn put_dots(html: &mut Markup, span: Span, window: Window, bins: &DrawnBins) {
     for bin in bins.bins.as_slice() {
         if let Some(dot) = &bin.slowest {
-            put_dot(html, span, window, dot, bin.late_replies)?;
+            put_dot(html, span, window, dot, bin.late_replies);
         }
     }
-    Ok(())
 }
 
 /// Puts the dot of the slowest of so many late replies.
-fn put_dot(html: &mut Markup, span: Span, window: Window, dot: &LateDot, replies: u32) -> Done {
+fn put_dot(html: &mut Markup, span: Span, window: Window, dot: &LateDot, replies: u32) {
     let mut words = Markup::new(html.alloc());
-    words.put_mark("Late reply, ")?;
-    put_thousands(&mut words, dot.delay_us)?;
-    words.put_mark(" &micro;s, record ")?;
-    put_thousands(&mut words, u64::from(dot.at))?;
-    words.put_mark(", ")?;
-    put_clock(&mut words, dot.time_us)?;
-    put_more(&mut words, u64::from(replies).saturating_sub(1))?;
+    words.put_mark("Late reply, ");
+    words.put_thousands(dot.delay_us);
+    words.put_mark(" &micro;s, record ");
+    words.put_thousands(u64::from(dot.at));
+    words.put_mark(", ");
+    put_clock(&mut words, dot.time_us);
+    put_more(&mut words, u64::from(replies).saturating_sub(1));
     let mut style = Markup::new(html.alloc());
-    style.put_mark("left:")?;
-    span.put_percent(&mut style, window.since(dot.time_us))?;
-    style.put_mark(";top:")?;
-    put_fixed(&mut style, delay_y(dot.delay_us), 1)?;
-    style.put_mark("px")?;
+    style.put_mark("left:");
+    span.put_percent(&mut style, window.since(dot.time_us));
+    style.put_mark(";top:");
+    style.put_fixed(delay_y(dot.delay_us), 1);
+    style.put_mark("px");
     let look = if dot.delay_us > MOST_DRAWN_US {
         "over"
     } else {
         "dot"
     };
-    put_mark_html(html, dot.id, look, &style, &words)
+    put_mark_html(html, dot.id, look, &style, &words);
 }

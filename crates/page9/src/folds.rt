@@ -133,7 +133,7 @@ impl Folds {
 
     /// Keeps a line.
     pub(crate) fn keep(&mut self, line: Markup) -> Done {
-        self.bytes = self.bytes.saturating_add(line.as_slice().len());
+        self.bytes = self.bytes.saturating_add(line.len());
         self.lines.push(line)?;
         Ok(())
     }
@@ -169,26 +169,26 @@ impl Folds {
         let kept = last.add(fold);
         for line in lines.get(..kept as usize).unwrap_or(&[]) {
             let mut copy = Markup::new(self.alloc);
-            copy.put_piece(line)?;
+            copy.put_piece(line);
             self.keep(copy)?;
         }
         Ok(())
     }
 
     /// Puts them.
-    pub(crate) fn put(&self, html: &mut Markup) -> Done {
+    pub(crate) fn put(&self, html: &mut Markup) {
         if self.folds.is_empty() {
-            return html.put_mark("<p>Nothing: no exchange is complete.</p>\n");
+            html.put_mark("<p>Nothing: no exchange is complete.</p>\n");
+            return;
         }
         let is_open = self.lines.len() <= MOST_OPEN;
         let mut from = 0usize;
         for fold in self.folds.iter() {
             let to = from.saturating_add(fold.kept as usize);
             let lines = self.lines.as_slice().get(from..to).unwrap_or(&[]);
-            fold.put(html, lines, is_open)?;
+            fold.put(html, lines, is_open);
             from = to;
         }
-        Ok(())
     }
 }
 
@@ -222,43 +222,42 @@ impl Fold {
     }
 
     /// Puts it with these lines.
-    fn put(&self, html: &mut Markup, lines: &[Markup], is_open: bool) -> Done {
+    fn put(&self, html: &mut Markup, lines: &[Markup], is_open: bool) {
         html.put_mark(if is_open {
             "<details open>"
         } else {
             "<details>"
-        })?;
-        html.put_mark("<summary><span>")?;
-        put_hours_and_minutes(html, self.from_us)?;
-        html.put_mark("</span><span>")?;
-        self.put_counts(html)?;
-        html.put_mark("</span></summary>\n<ol class=\"lines\">\n")?;
+        });
+        html.put_mark("<summary><span>");
+        put_hours_and_minutes(html, self.from_us);
+        html.put_mark("</span><span>");
+        self.put_counts(html);
+        html.put_mark("</span></summary>\n<ol class=\"lines\">\n");
         for line in lines {
-            html.put_piece(line)?;
+            html.put_piece(line);
         }
-        html.put_mark("</ol>\n")?;
+        html.put_mark("</ol>\n");
         let others = self.lines.saturating_sub(self.kept);
-        put_rest(html, others, ("more line is", "more lines are"), "digest")?;
-        html.put_mark("</details>\n")
+        put_rest(html, others, ("more line is", "more lines are"), "digest");
+        html.put_mark("</details>\n");
     }
 
     /// Puts how much happened in it.
-    fn put_counts(&self, html: &mut Markup) -> Done {
+    fn put_counts(&self, html: &mut Markup) {
         if self.commands > 0 {
-            put_counted(html, self.commands, "command", "commands")?;
+            put_counted(html, self.commands, "command", "commands");
         }
         if self.queries > 0 {
-            html.put_mark(if self.commands > 0 { ", " } else { "" })?;
-            put_counted(html, self.queries, "query", "queries")?;
+            html.put_mark(if self.commands > 0 { ", " } else { "" });
+            put_counted(html, self.queries, "query", "queries");
         }
         if self.breaks > 0 {
             let is_first = self.commands == 0 && self.queries == 0;
-            html.put_mark(if is_first { "" } else { ", " })?;
-            html.put_mark("<b class=\"bad\">")?;
-            put_counted(html, self.breaks, "break", "breaks")?;
-            html.put_mark("</b>")?;
+            html.put_mark(if is_first { "" } else { ", " });
+            html.put_mark("<b class=\"bad\">");
+            put_counted(html, self.breaks, "break", "breaks");
+            html.put_mark("</b>");
         }
-        Ok(())
     }
 }
 

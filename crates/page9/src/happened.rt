@@ -108,13 +108,14 @@ impl<'a> Happened<'a> {
     /// Puts the section, after all of the session.
     pub(crate) fn put(&mut self, html: &mut Markup) -> Done {
         self.put_since()?;
-        html.put_mark("<section id=\"happened\"><h2>What happened</h2>\n")?;
+        html.put_mark("<section id=\"happened\"><h2>What happened</h2>\n");
         put_note(
             html,
             "Each command, and each query that changed what is known of the deck. The other queries are counted.",
-        )?;
-        self.folds.put(html)?;
-        html.put_mark("</section>\n")
+        );
+        self.folds.put(html);
+        html.put_mark("</section>\n");
+        Ok(())
     }
 
     /// Goes on with the fold of this time, or begins it.
@@ -140,9 +141,9 @@ impl<'a> Happened<'a> {
             return Ok(());
         }
         let mut line = Markup::new(self.alloc);
-        line.put_mark("<li class=\"counts\"><span>")?;
-        put_with_arrows(&mut line, self.text.as_slice())?;
-        end_line(&mut line)?;
+        line.put_mark("<li class=\"counts\"><span>");
+        put_with_arrows(&mut line, self.text.as_slice());
+        end_line(&mut line);
         self.folds.keep(line)
     }
 
@@ -155,7 +156,7 @@ impl<'a> Happened<'a> {
             return Ok(());
         }
         let mut line = Markup::new(self.alloc);
-        run.put(&mut line)?;
+        run.put(&mut line);
         self.folds.keep(line)
     }
 
@@ -176,9 +177,9 @@ impl<'a> Happened<'a> {
             if asks { "query" } else { "" },
             seen.end_us,
             seen.last,
-        )?;
-        put_with_arrows(&mut line, self.text.as_slice())?;
-        end_line(&mut line)?;
+        );
+        put_with_arrows(&mut line, self.text.as_slice());
+        end_line(&mut line);
         self.folds.keep(line)
     }
 
@@ -243,17 +244,17 @@ impl<'a> Happened<'a> {
 
 impl Run {
     /// Puts their line.
-    fn put(&self, line: &mut Markup) -> Done {
+    fn put(&self, line: &mut Markup) {
         let first = self.breaks.first();
-        begin_line(line, "broken", first.time_us, first.at)?;
-        begin_link(line, self.id)?;
-        put_reason(line, first.reason)?;
-        end_link(line, self.id)?;
+        begin_line(line, "broken", first.time_us, first.at);
+        begin_link(line, self.id);
+        put_reason(line, first.reason);
+        end_link(line, self.id);
         if self.breaks.breaks() > 1 {
-            line.put_mark(", ")?;
-            put_run(line, &self.breaks)?;
+            line.put_mark(", ");
+            put_run(line, &self.breaks);
         }
-        end_line(line)
+        end_line(line);
     }
 }
 
@@ -272,17 +273,17 @@ fn is_restored(change: &Change, before: Value) -> bool {
 }
 
 /// Puts foreign text, in which the arrows of a report become arrows of the page.
-fn put_with_arrows(html: &mut Markup, text: &[u8]) -> Done {
+fn put_with_arrows(html: &mut Markup, text: &[u8]) {
     let mut done = 0usize;
     for (at, word) in text.windows(4).enumerate() {
         let Some(arrow) = arrow_of(word) else {
             continue;
         };
-        html.put_foreign(text.get(done..at).unwrap_or(&[]))?;
-        html.put_mark(arrow)?;
+        html.put_foreign(text.get(done..at).unwrap_or(&[]));
+        html.put_mark(arrow);
         done = at.saturating_add(4);
     }
-    html.put_foreign(text.get(done..).unwrap_or(&[]))
+    html.put_foreign(text.get(done..).unwrap_or(&[]));
 }
 
 /// The arrow of the page for one of a report, between blanks.

@@ -1,16 +1,13 @@
 //! The head of the page: how many breaks there are and which, of what capture, judged with what, and what the capture says of itself.
 
-use crate::again::Again;
 use crate::breaks::{Breaks, ReasonCount};
-use crate::html::{
-    begin_link, end_link, put_clock, put_counted, put_fixed, put_lasting, put_thousands,
-};
+use crate::html::{begin_link, end_link, put_clock, put_counted, put_lasting};
 use crate::page::PageOf;
 use crate::span::Span;
 use crate::style::put_style;
 use deck9::{Hands, Profile};
 use info9::{Sign, rate_word};
-use picture9::{Done, Markup};
+use picture9::Markup;
 use report9::{Beginning, Totals};
 use tc25::Rate;
 use view9::{Field, Strength};
@@ -30,22 +27,22 @@ pub(crate) struct Told<'a> {
 }
 
 /// Puts the title of the page and how it looks.
-pub(crate) fn put_title(html: &mut Markup, page: &PageOf<'_>, breaks: u64) -> Done {
+pub(crate) fn put_title(html: &mut Markup, page: &PageOf<'_>, breaks: u64) {
     html.put_mark(
         "<!DOCTYPE html>\n<html lang=\"en\">\n<head>\n<meta charset=\"utf-8\">\n\
         <meta name=\"viewport\" content=\"width=device-width, initial-scale=1\">\n\
         <meta name=\"color-scheme\" content=\"light dark\">\n<title>",
-    )?;
-    put_counted(html, breaks, "break", "breaks")?;
-    html.put_mark(": ")?;
-    put_file(html, page)?;
-    html.put_mark("</title>\n")?;
-    put_style(html)?;
-    html.put_mark("</head>\n<body>\n<main>\n")
+    );
+    put_counted(html, breaks, "break", "breaks");
+    html.put_mark(": ");
+    put_file(html, page);
+    html.put_mark("</title>\n");
+    put_style(html);
+    html.put_mark("</head>\n<body>\n<main>\n");
 }
 
 /// Puts what the capture is called.
-fn put_file(html: &mut Markup, page: &PageOf<'_>) -> Done {
+fn put_file(html: &mut Markup, page: &PageOf<'_>) {
     match page.file {
         Some(file) => html.put_foreign(file),
         None => html.put_mark("standard input"),
@@ -60,230 +57,226 @@ pub(crate) fn put_head(
     told: &Told<'_>,
     signs: &[Option<Sign>],
     options: &[u8],
-) -> Done {
+) {
     let breaks = told.breaks.count();
-    html.put_mark("<header>\n<p class=\"file\">")?;
-    put_file(html, page)?;
+    html.put_mark("<header>\n<p class=\"file\">");
+    put_file(html, page);
     html.put_mark(if breaks > 0 {
         "</p>\n<h1 class=\"bad\">"
     } else {
         "</p>\n<h1>"
-    })?;
-    put_counted(html, breaks, "break", "breaks")?;
-    html.put_mark("</h1>\n<p class=\"lead\">")?;
-    put_lead(html, told)?;
-    html.put_mark("</p>\n")?;
-    put_signs(html, signs)?;
-    put_facts(html, told)?;
-    put_judged_with(html, page, profile, options)?;
+    });
+    put_counted(html, breaks, "break", "breaks");
+    html.put_mark("</h1>\n<p class=\"lead\">");
+    put_lead(html, told);
+    html.put_mark("</p>\n");
+    put_signs(html, signs);
+    put_facts(html, told);
+    put_judged_with(html, page, profile, options);
     html.put_mark(
         "<nav aria-label=\"Sections\">\n\
         <a href=\"#session\">Session</a> <a href=\"#breaks\">Breaks</a> <a href=\"#happened\">What happened</a>\n",
-    )?;
+    );
     if profile.hands == Hands::Allowed {
-        html.put_mark("<a href=\"#touches\">Touches</a>\n")?;
+        html.put_mark("<a href=\"#touches\">Touches</a>\n");
     }
     html.put_mark(
         "<a href=\"#delays\">Delays</a> <a href=\"#look\">What to look at</a> <a href=\"#known\">How much was known</a>\n\
         </nav>\n</header>\n",
-    )
+    );
 }
 
 /// Puts the first thing to know.
-fn put_lead(html: &mut Markup, told: &Told<'_>) -> Done {
+fn put_lead(html: &mut Markup, told: &Told<'_>) {
     if told.totals.records == 0 {
-        return html.put_mark("The capture has no records.");
+        html.put_mark("The capture has no records.");
+        return;
     }
     let Some(first) = told.breaks.first() else {
-        return put_clean(html, told);
+        put_clean(html, told);
+        return;
     };
     if told.breaks.count() > 1 {
-        put_reasons(html, told.reasons)?;
-        html.put_mark(". The first is ")?;
-        begin_link(html, Some(first.id))?;
-        html.put_mark("record ")?;
-        put_thousands(html, u64::from(first.at))?;
-        end_link(html, Some(first.id))?;
-        html.put_mark(" at ")?;
-        put_clock(html, first.time_us)?;
-        return html.put_mark(".");
+        put_reasons(html, told.reasons);
+        html.put_mark(". The first is ");
+        begin_link(html, Some(first.id));
+        html.put_mark("record ");
+        html.put_thousands(u64::from(first.at));
+        end_link(html, Some(first.id));
+        html.put_mark(" at ");
+        put_clock(html, first.time_us);
+        html.put_mark(".");
+        return;
     }
-    html.put_mark("Record ")?;
-    begin_link(html, Some(first.id))?;
-    put_thousands(html, u64::from(first.at))?;
-    end_link(html, Some(first.id))?;
-    html.put_mark(" at ")?;
-    put_clock(html, first.time_us)?;
-    html.put_mark(": ")?;
-    html.put_mark(first.reason.name())?;
-    html.put_mark(" ")?;
-    html.put_mark(first.reason.text())?;
-    html.put_mark(". ")?;
-    html.put_piece(first.sentence)
+    html.put_mark("Record ");
+    begin_link(html, Some(first.id));
+    html.put_thousands(u64::from(first.at));
+    end_link(html, Some(first.id));
+    html.put_mark(" at ");
+    put_clock(html, first.time_us);
+    html.put_mark(": ");
+    html.put_mark(first.reason.name());
+    html.put_mark(" ");
+    html.put_mark(first.reason.text());
+    html.put_mark(". ");
+    html.put_piece(first.sentence);
 }
 
 /// Puts the reasons with their counts.
-fn put_reasons(html: &mut Markup, reasons: &[ReasonCount]) -> Done {
+fn put_reasons(html: &mut Markup, reasons: &[ReasonCount]) {
     for (place, counted) in reasons.iter().enumerate() {
         if place == 0 {
-            put_capital(html, counted.reason.text().as_bytes())?;
+            put_capital(html, counted.reason.text().as_bytes());
         } else {
-            html.put_mark("; ")?;
-            html.put_mark(counted.reason.text())?;
+            html.put_mark("; ");
+            html.put_mark(counted.reason.text());
         }
-        html.put_mark(" ")?;
-        put_thousands(html, counted.breaks)?;
+        html.put_mark(" ");
+        html.put_thousands(counted.breaks);
     }
-    Ok(())
 }
 
 /// Puts a text that begins a sentence.
-fn put_capital(html: &mut Markup, text: &[u8]) -> Done {
+fn put_capital(html: &mut Markup, text: &[u8]) {
     let Some((first, rest)) = text.split_first() else {
-        return Ok(());
+        return;
     };
-    html.put_foreign(&[first.to_ascii_uppercase()])?;
-    html.put_foreign(rest)
+    html.put_foreign(&[first.to_ascii_uppercase()]);
+    html.put_foreign(rest);
 }
 
 /// Puts that there is no break. What stands first then is how much that says.
-fn put_clean(html: &mut Markup, told: &Told<'_>) -> Done {
+fn put_clean(html: &mut Markup, told: &Told<'_>) {
     html.put_mark(if told.totals.passed_over > 0 {
         "Every record that was judged keeps the rules"
     } else {
         "Every record keeps the rules"
-    })?;
+    });
     if told.totals.exchanges == 0 {
-        return html.put_mark(". No exchange is complete, so of the deck nothing was tested.");
+        html.put_mark(". No exchange is complete, so of the deck nothing was tested.");
+        return;
     }
     html.put_mark(
         ", and a deck can have given these replies. <a href=\"#known\">What was not known</a> was not tested: \
         shown mode known at ",
-    )?;
-    put_share(html, told, Field::Shown)?;
-    html.put_mark(" of the exchanges, IN at ")?;
-    put_share(html, told, Field::In)?;
-    html.put_mark(", OUT at ")?;
-    put_share(html, told, Field::Out)?;
-    html.put_mark(", local at ")?;
-    put_share(html, told, Field::Local)?;
-    html.put_mark(".")
+    );
+    put_share(html, told, Field::Shown);
+    html.put_mark(" of the exchanges, IN at ");
+    put_share(html, told, Field::In);
+    html.put_mark(", OUT at ");
+    put_share(html, told, Field::Out);
+    html.put_mark(", local at ");
+    put_share(html, told, Field::Local);
+    html.put_mark(".");
 }
 
 /// Puts at which share of the exchanges a field was known.
-fn put_share(html: &mut Markup, told: &Told<'_>, field: Field) -> Done {
+fn put_share(html: &mut Markup, told: &Told<'_>, field: Field) {
     let times = told.strength.times_known(field);
-    put_fixed(html, told.strength.tenths(times), 1)?;
-    html.put_mark(" %")
+    html.put_fixed(told.strength.tenths(times), 1);
+    html.put_mark(" %");
 }
 
 /// Puts the signs of the capture, which say what to look at before anybody is blamed; nothing where there is none.
-fn put_signs(html: &mut Markup, signs: &[Option<Sign>]) -> Done {
+fn put_signs(html: &mut Markup, signs: &[Option<Sign>]) {
     let mut is_begun = false;
     for sign in signs {
         let Some(sign) = sign else {
             continue;
         };
         if !is_begun {
-            html.put_mark("<div class=\"signs\"><p><b>Look at the capture first:</b></p>\n<ul>\n")?;
+            html.put_mark("<div class=\"signs\"><p><b>Look at the capture first:</b></p>\n<ul>\n");
             is_begun = true;
         }
-        let mut line = Vec::new(html.alloc());
-        sign.put_told(&mut line)?;
-        html.put_mark("<li>")?;
-        html.put_foreign(line.as_slice())?;
-        html.put_mark("</li>\n")?;
+        html.put_mark("<li>");
+        html.put_with(|line| sign.put_told(line));
+        html.put_mark("</li>\n");
     }
-    html.put_mark(if is_begun { "</ul></div>\n" } else { "" })
+    html.put_mark(if is_begun { "</ul></div>\n" } else { "" });
 }
 
 /// Puts when the capture is, and how much there is of it.
-fn put_facts(html: &mut Markup, told: &Told<'_>) -> Done {
-    html.put_mark("<div class=\"facts\">\n")?;
+fn put_facts(html: &mut Markup, told: &Told<'_>) {
+    html.put_mark("<div class=\"facts\">\n");
     if let Some(whole) = told.whole {
-        put_time(html, "Begins", whole.from_us)?;
-        put_time(html, "Ends", whole.to_us)?;
-        begin_fact(html, "Lasts")?;
-        put_lasting(html, whole.lasts_us())?;
-        end_fact(html)?;
+        put_time(html, "Begins", whole.from_us);
+        put_time(html, "Ends", whole.to_us);
+        begin_fact(html, "Lasts");
+        put_lasting(html, whole.lasts_us());
+        end_fact(html);
     }
-    put_count(html, "Records", told.totals.records)?;
-    put_count(html, "Exchanges", told.totals.exchanges)?;
-    put_count(html, "Passed over", told.totals.passed_over)?;
-    put_count(html, "Open at the end", told.totals.tail)?;
-    html.put_mark("</div>\n")?;
+    put_count(html, "Records", told.totals.records);
+    put_count(html, "Exchanges", told.totals.exchanges);
+    put_count(html, "Passed over", told.totals.passed_over);
+    put_count(html, "Open at the end", told.totals.tail);
+    html.put_mark("</div>\n");
     if told.shown == told.whole {
-        return Ok(());
+        return;
     }
-    html.put_mark("<div class=\"facts\">\n")?;
+    html.put_mark("<div class=\"facts\">\n");
     if let Some(shown) = told.shown {
-        put_time(html, "Shown from", shown.from_us)?;
-        put_time(html, "Shown to", shown.to_us)?;
+        put_time(html, "Shown from", shown.from_us);
+        put_time(html, "Shown to", shown.to_us);
     }
-    html.put_mark("</div>\n")
+    html.put_mark("</div>\n");
 }
 
 /// Puts what was assumed of the deck, in words and as the options that say so.
-fn put_judged_with(
-    html: &mut Markup,
-    page: &PageOf<'_>,
-    profile: &Profile,
-    options: &[u8],
-) -> Done {
-    html.put_mark("<div class=\"facts\">\n")?;
-    begin_fact(html, "Judged with")?;
+fn put_judged_with(html: &mut Markup, page: &PageOf<'_>, profile: &Profile, options: &[u8]) {
+    html.put_mark("<div class=\"facts\">\n");
+    begin_fact(html, "Judged with");
     html.put_mark(match profile.rate {
         Rate::DropFrame => "29.97 frames a second, drop frame",
         rate => rate_word(rate),
-    })?;
+    });
     html.put_mark(match profile.rate {
         Rate::DropFrame => "",
         _ => " frames a second",
-    })?;
+    });
     html.put_mark(match profile.hands {
         Hands::Allowed => ", somebody may have touched the panel",
         Hands::None => ", nobody at the panel",
-    })?;
+    });
     match page.sheet {
         Some(sheet) => {
-            html.put_mark(", deck sheet ")?;
-            html.put_foreign(sheet)?;
+            html.put_mark(", deck sheet ");
+            html.put_foreign(sheet);
         }
-        None => html.put_mark(", no deck sheet")?,
+        None => html.put_mark(", no deck sheet"),
     }
     if page.beginning != Beginning::FirstRecord {
-        html.put_mark(", from the first record that may begin a command")?;
+        html.put_mark(", from the first record that may begin a command");
     }
-    html.put_mark(" <code>--all")?;
-    html.put_mark(if options.is_empty() { "" } else { " " })?;
-    html.put_foreign(options)?;
-    html.put_mark("</code>")?;
-    end_fact(html)?;
-    html.put_mark("</div>\n")
+    html.put_mark(" <code>--all");
+    html.put_mark(if options.is_empty() { "" } else { " " });
+    html.put_foreign(options);
+    html.put_mark("</code>");
+    end_fact(html);
+    html.put_mark("</div>\n");
 }
 
 /// Puts a fact up to what it is.
-fn begin_fact(html: &mut Markup, name: &'static str) -> Done {
-    html.put_mark("<dl><dt>")?;
-    html.put_mark(name)?;
-    html.put_mark("</dt><dd>")
+fn begin_fact(html: &mut Markup, name: &'static str) {
+    html.put_mark("<dl><dt>");
+    html.put_mark(name);
+    html.put_mark("</dt><dd>");
 }
 
 /// Puts the end of a fact.
-fn end_fact(html: &mut Markup) -> Done {
-    html.put_mark("</dd></dl>\n")
+fn end_fact(html: &mut Markup) {
+    html.put_mark("</dd></dl>\n");
 }
 
 /// Puts a fact that is a time.
-fn put_time(html: &mut Markup, name: &'static str, us: u64) -> Done {
-    begin_fact(html, name)?;
-    put_clock(html, us)?;
-    end_fact(html)
+fn put_time(html: &mut Markup, name: &'static str, us: u64) {
+    begin_fact(html, name);
+    put_clock(html, us);
+    end_fact(html);
 }
 
 /// Puts a fact that is a count.
-fn put_count(html: &mut Markup, name: &'static str, count: u32) -> Done {
-    begin_fact(html, name)?;
-    put_thousands(html, u64::from(count))?;
-    end_fact(html)
+fn put_count(html: &mut Markup, name: &'static str, count: u32) {
+    begin_fact(html, name);
+    html.put_thousands(u64::from(count));
+    end_fact(html);
 }

@@ -2,37 +2,8 @@
 ghost use Rattle.std.specs.Prelude.{◌≤◌};
 
 use block9::Reason;
-use picture9::{Done, Markup};
-use report9::put_hex;
+use picture9::Markup;
 use view9::BreakRun;
-
-/// The groups of three digits of a number, as their powers of ten.
-const GROUPS: [u64; 7] = [
-    1_000_000_000_000_000_000,
-    1_000_000_000_000_000,
-    1_000_000_000_000,
-    1_000_000_000,
-    1_000_000,
-    1_000,
-    1,
-];
-
-/// Puts a whole number with a comma before each three of its last digits.
-pub(crate) fn put_thousands(html: &mut Markup, number: u64) -> Done {
-    let mut is_begun = false;
-    for group in GROUPS {
-        let above = number.checked_div(group).unwrap_or(0);
-        let digits = above % 1_000;
-        if is_begun {
-            html.put_mark(",")?;
-            put_padded(html, digits, 3)?;
-        } else if above > 0 || group == 1 {
-            html.put_whole("", digits)?;
-            is_begun = true;
-        }
-    }
-    Ok(())
-}
 
 /// Puts a number with its noun.
 pub(crate) fn put_counted(
@@ -40,94 +11,79 @@ pub(crate) fn put_counted(
     number: u64,
     noun: &'static str,
     plural: &'static str,
-) -> Done {
-    put_thousands(html, number)?;
-    html.put_mark(" ")?;
-    html.put_mark(if number == 1 { noun } else { plural })
+) {
+    html.put_thousands(number);
+    html.put_mark(" ");
+    html.put_mark(if number == 1 { noun } else { plural });
 }
 
 /// Puts the last digits of a number, so many.
-pub(crate) fn put_padded(html: &mut Markup, number: u64, digits: u32) -> Done {
+pub(crate) fn put_padded(html: &mut Markup, number: u64, digits: u32) {
     for place in (0..digits).rev() {
         let power = 10u64.checked_pow(place).unwrap_or(u64::MAX);
-        html.put_whole("", number.checked_div(power).unwrap_or(0) % 10)?;
+        html.put_whole("", number.checked_div(power).unwrap_or(0) % 10);
     }
-    Ok(())
-}
-
-/// Puts a number with a point before so many of its last digits.
-pub(crate) fn put_fixed(html: &mut Markup, number: u64, places: u32) -> Done {
-    let power = 10u64.checked_pow(places).unwrap_or(u64::MAX);
-    html.put_whole("", number.checked_div(power).unwrap_or(0))?;
-    html.put_mark(".")?;
-    put_padded(html, number, places)
 }
 
 /// Puts microseconds as seconds with six decimals.
-pub(crate) fn put_seconds(html: &mut Markup, us: u64) -> Done {
-    put_fixed(html, us, 6)
+pub(crate) fn put_seconds(html: &mut Markup, us: u64) {
+    html.put_fixed(us, 6);
 }
 
 /// Puts a time on the capture's clock as hours, minutes and seconds, to the millisecond: cut and not rounded.
-pub(crate) fn put_clock(html: &mut Markup, us: u64) -> Done {
+pub(crate) fn put_clock(html: &mut Markup, us: u64) {
     let seconds = us / 1_000_000;
-    put_hours_and_minutes(html, us)?;
-    html.put_mark(":")?;
-    put_padded(html, seconds % 60, 2)?;
-    html.put_mark(".")?;
-    put_padded(html, us / 1_000 % 1_000, 3)
+    put_hours_and_minutes(html, us);
+    html.put_mark(":");
+    put_padded(html, seconds % 60, 2);
+    html.put_mark(".");
+    put_padded(html, us / 1_000 % 1_000, 3);
 }
 
 /// Puts a time on the capture's clock as hours and minutes.
-pub(crate) fn put_hours_and_minutes(html: &mut Markup, us: u64) -> Done {
+pub(crate) fn put_hours_and_minutes(html: &mut Markup, us: u64) {
     let hours = us / 3_600_000_000;
     if hours < 10 {
-        html.put_mark("0")?;
+        html.put_mark("0");
     }
-    html.put_whole("", hours)?;
-    html.put_mark(":")?;
-    put_padded(html, us / 60_000_000 % 60, 2)
+    html.put_whole("", hours);
+    html.put_mark(":");
+    put_padded(html, us / 60_000_000 % 60, 2);
 }
 
 /// Puts how long something lasts in words of hours, minutes and seconds, cut to a tenth.
-pub(crate) fn put_lasting(html: &mut Markup, us: u64) -> Done {
+pub(crate) fn put_lasting(html: &mut Markup, us: u64) {
     if us < 1_000_000 {
-        put_fixed(html, us / 100, 1)?;
-        return html.put_mark(" ms");
+        html.put_fixed(us / 100, 1);
+        html.put_mark(" ms");
+        return;
     }
     let minutes = us / 60_000_000;
     if minutes >= 60 {
-        html.put_whole("", minutes / 60)?;
-        html.put_mark(" h ")?;
+        html.put_whole("", minutes / 60);
+        html.put_mark(" h ");
     }
     if minutes > 0 {
-        html.put_whole("", minutes % 60)?;
-        html.put_mark(" min ")?;
+        html.put_whole("", minutes % 60);
+        html.put_mark(" min ");
     }
-    put_fixed(html, us % 60_000_000 / 100_000, 1)?;
-    html.put_mark(" s")
-}
-
-/// Puts a byte in two hexadecimal digits.
-pub(crate) fn put_byte(html: &mut Markup, byte: u8) -> Done {
-    let mut digits = Vec::new(html.alloc());
-    put_hex(&mut digits, u32::from(byte))?;
-    html.put_foreign(digits.as_slice())
+    html.put_fixed(us % 60_000_000 / 100_000, 1);
+    html.put_mark(" s");
 }
 
 /// Puts a reason, by its name and its words.
-pub(crate) fn put_reason(html: &mut Markup, reason: Reason) -> Done {
-    html.put_mark("<b>")?;
-    html.put_mark(reason.name())?;
-    html.put_mark("</b> ")?;
-    html.put_mark(reason.text())
+pub(crate) fn put_reason(html: &mut Markup, reason: Reason) {
+    html.put_mark("<b>");
+    html.put_mark(reason.name());
+    html.put_mark("</b> ");
+    html.put_mark(reason.text());
 }
 
 /// Puts a note above a section's lists.
-pub(crate) fn put_note(html: &mut Markup, note: &'static str) -> Done {
-    html.put_mark("<p class=\"note\">")?;
-    html.put_mark(note)?;
-    html.put_mark("</p>\n")
+pub(crate) fn put_note(html: &mut Markup, note: &'static str) {
+    html.put_mark("<p class=\"note\">");
+    html.put_mark(note);
+    html.put_mark("</p>\n");
 }
 
 /// Puts how many of something are not listed, and which command has them all; nothing where all are.
@@ -136,15 +92,15 @@ pub(crate) fn put_rest(
     number: u64,
     (noun, plural): (&'static str, &'static str),
     command: &'static str,
-) -> Done {
+) {
     if number == 0 {
-        return Ok(());
+        return;
     }
-    html.put_mark("<p class=\"note\">")?;
-    put_counted(html, number, noun, plural)?;
-    html.put_mark(" not listed: <code>ninecheck ")?;
-    html.put_mark(command)?;
-    html.put_mark("</code> has all.</p>\n")
+    html.put_mark("<p class=\"note\">");
+    put_counted(html, number, noun, plural);
+    html.put_mark(" not listed: <code>ninecheck ");
+    html.put_mark(command);
+    html.put_mark("</code> has all.</p>\n");
 }
 
 /// What leads to a break that is listed: its place on the page.
@@ -158,72 +114,72 @@ pub(crate) struct BreakId {
 
 impl BreakId {
     /// Puts it.
-    pub(crate) fn put(self, html: &mut Markup) -> Done {
-        html.put_whole("r", u64::from(self.at))?;
-        html.put_mark(if self.is_second { "-2" } else { "" })
+    pub(crate) fn put(self, html: &mut Markup) {
+        html.put_whole("r", u64::from(self.at));
+        html.put_mark(if self.is_second { "-2" } else { "" });
     }
 }
 
 /// Puts how many equal breaks in a row there are, and which record is the last, with its time.
-pub(crate) fn put_run(html: &mut Markup, run: &BreakRun) -> Done {
-    put_thousands(html, u64::from(run.breaks()))?;
-    html.put_mark(" in a row, the last at record ")?;
-    put_thousands(html, u64::from(run.last_at()))?;
-    html.put_mark(", ")?;
-    put_clock(html, run.last_us())
+pub(crate) fn put_run(html: &mut Markup, run: &BreakRun) {
+    html.put_thousands(u64::from(run.breaks()));
+    html.put_mark(" in a row, the last at record ");
+    html.put_thousands(u64::from(run.last_at()));
+    html.put_mark(", ");
+    put_clock(html, run.last_us());
 }
 
 /// Puts the head of a link to a break, where it is listed.
-pub(crate) fn begin_link(html: &mut Markup, id: Option<BreakId>) -> Done {
+pub(crate) fn begin_link(html: &mut Markup, id: Option<BreakId>) {
     let Some(id) = id else {
-        return Ok(());
+        return;
     };
-    html.put_mark("<a href=\"#")?;
-    id.put(html)?;
-    html.put_mark("\">")
+    html.put_mark("<a href=\"#");
+    id.put(html);
+    html.put_mark("\">");
 }
 
 /// Puts the end of a link to a break, where it is listed.
-pub(crate) fn end_link(html: &mut Markup, id: Option<BreakId>) -> Done {
-    html.put_mark(if id.is_some() { "</a>" } else { "" })
+pub(crate) fn end_link(html: &mut Markup, id: Option<BreakId>) {
+    html.put_mark(if id.is_some() { "</a>" } else { "" });
 }
 
 /// Puts a line of a list up to what is said in it: the look of it, its time and its record.
-pub(crate) fn begin_line(html: &mut Markup, look: &'static str, us: u64, record: u32) -> Done {
-    html.put_mark("<li")?;
+pub(crate) fn begin_line(html: &mut Markup, look: &'static str, us: u64, record: u32) {
+    html.put_mark("<li");
     if !look.is_empty() {
-        html.put_mark(" class=\"")?;
-        html.put_mark(look)?;
-        html.put_mark("\"")?;
+        html.put_mark(" class=\"");
+        html.put_mark(look);
+        html.put_mark("\"");
     }
-    html.put_mark("><span>")?;
-    put_clock(html, us)?;
-    html.put_mark("</span><span class=\"soft\">record ")?;
-    put_thousands(html, u64::from(record))?;
-    html.put_mark("</span><span>")
+    html.put_mark("><span>");
+    put_clock(html, us);
+    html.put_mark("</span><span class=\"soft\">record ");
+    html.put_thousands(u64::from(record));
+    html.put_mark("</span><span>");
 }
 
 /// Puts the end of a line of a list.
-pub(crate) fn end_line(html: &mut Markup) -> Done {
-    html.put_mark("</span></li>\n")
+pub(crate) fn end_line(html: &mut Markup) {
+    html.put_mark("</span></li>\n");
 }
 
 /// Puts a path of a chart up to its steps.
-pub(crate) fn begin_path(html: &mut Markup, look: &'static str) -> Done {
-    html.put_mark("<path class=\"")?;
-    html.put_mark(look)?;
-    html.put_mark("\" d=\"")
+pub(crate) fn begin_path(html: &mut Markup, look: &'static str) {
+    html.put_mark("<path class=\"");
+    html.put_mark(look);
+    html.put_mark("\" d=\"");
 }
 
 /// Puts the end of a path.
-pub(crate) fn end_path(html: &mut Markup) -> Done {
-    html.put_mark("\"/>")
+pub(crate) fn end_path(html: &mut Markup) {
+    html.put_mark("\"/>");
 }
 
 /// Puts the head of a chart that is as wide as there is room and so many pixels tall, up to its title's words. It is stretched to the
 /// width, so it holds no text.
-pub(crate) fn begin_chart(html: &mut Markup, tall: u64) -> Done {
-    html.put_whole("<svg viewBox=\"0 0 1000 ", tall)?;
-    html.put_whole("\" height=\"", tall)?;
-    html.put_mark("\" preserveAspectRatio=\"none\" role=\"img\"><title>")
+pub(crate) fn begin_chart(html: &mut Markup, tall: u64) {
+    html.put_whole("<svg viewBox=\"0 0 1000 ", tall);
+    html.put_whole("\" height=\"", tall);
+    html.put_mark("\" preserveAspectRatio=\"none\" role=\"img\"><title>");
 }

@@ -1,11 +1,11 @@
 //! The lanes of local, the panel and the registers: bars where they were known.
 
-use crate::html::{begin_path, end_path, put_fixed, put_thousands};
+use crate::html::{begin_path, end_path};
 use crate::lane::{Cut, Lane, LongRun, MOST_CUTS, is_long};
 use crate::runs::Run;
 use crate::session::{begin_lane, begin_lane_chart};
 use crate::span::Span;
-use picture9::{Done, Markup};
+use picture9::Markup;
 use tc25::Rate;
 use view9::Field;
 
@@ -57,31 +57,31 @@ pub(crate) fn is_audio(field: Field) -> bool {
 }
 
 /// Puts the lane of a field that was known.
-pub(crate) fn put_lane(html: &mut Markup, span: Span, lane: &Lane, rate: Rate) -> Done {
+pub(crate) fn put_lane(html: &mut Markup, span: Span, lane: &Lane, rate: Rate) {
     let name = lane_name(lane.field);
-    begin_lane(html, " thin")?;
-    html.put_mark("<b>")?;
-    html.put_mark(name)?;
-    html.put_mark("</b>")?;
+    begin_lane(html, " thin");
+    html.put_mark("<b>");
+    html.put_mark(name);
+    html.put_mark("</b>");
     if lane.times > MOST_CUTS {
-        html.put_mark(" <span>")?;
-        put_thousands(html, u64::from(lane.times))?;
-        html.put_mark(" times</span>")?;
+        html.put_mark(" <span>");
+        html.put_thousands(u64::from(lane.times));
+        html.put_mark(" times</span>");
     }
-    begin_lane_chart(html, 18)?;
-    html.put_mark(name)?;
-    html.put_mark(" over time, as far as it was known</title><use href=\"#g\"/>\n")?;
-    put_runs(html, span, lane.lows.as_slice(), "clear", (14, 2))?;
-    put_runs(html, span, lane.halves.as_slice(), "half", (9, 7))?;
-    put_runs(html, span, lane.states.as_slice(), "state", (2, 14))?;
+    begin_lane_chart(html, 18);
+    html.put_mark(name);
+    html.put_mark(" over time, as far as it was known</title><use href=\"#g\"/>\n");
+    put_runs(html, span, lane.lows.as_slice(), "clear", (14, 2));
+    put_runs(html, span, lane.halves.as_slice(), "half", (9, 7));
+    put_runs(html, span, lane.states.as_slice(), "state", (2, 14));
     if lane.times <= MOST_CUTS {
-        put_cuts(html, span, lane.cuts.as_slice())?;
+        put_cuts(html, span, lane.cuts.as_slice());
     }
-    html.put_mark("</svg>\n")?;
-    put_values(html, span, lane.long(), rate)?;
-    html.put_mark("</div><div class=\"scale\"><span class=\"narrow\" aria-hidden=\"true\">")?;
-    html.put_mark(name)?;
-    html.put_mark("</span></div></div>\n")
+    html.put_mark("</svg>\n");
+    put_values(html, span, lane.long(), rate);
+    html.put_mark("</div><div class=\"scale\"><span class=\"narrow\" aria-hidden=\"true\">");
+    html.put_mark(name);
+    html.put_mark("</span></div></div>\n");
 }
 
 /// Puts the bars of runs, which begin so far from above and are so tall.
@@ -91,8 +91,8 @@ fn put_runs(
     runs: &[Run],
     look: &'static str,
     (top, tall): (u64, u64),
-) -> Done {
-    begin_path(html, look)?;
+) {
+    begin_path(html, look);
     let mut open: Option<Bar> = None;
     for run in runs {
         let bar = Bar::of(span, run);
@@ -102,34 +102,34 @@ fn put_runs(
                 to: last.to.max(bar.to),
             }),
             last => {
-                put_bar(html, last, (top, tall))?;
+                put_bar(html, last, (top, tall));
                 Some(bar)
             }
         };
     }
-    put_bar(html, open, (top, tall))?;
-    end_path(html)
+    put_bar(html, open, (top, tall));
+    end_path(html);
 }
 
 /// Puts the steps of a bar, where there is one.
-fn put_bar(html: &mut Markup, bar: Option<Bar>, (top, tall): (u64, u64)) -> Done {
+fn put_bar(html: &mut Markup, bar: Option<Bar>, (top, tall): (u64, u64)) {
     let Some(bar) = bar else {
-        return Ok(());
+        return;
     };
     let wide = bar.to.saturating_sub(bar.from);
-    html.put_mark("M")?;
-    put_fixed(html, bar.from, 2)?;
-    html.put_whole(" ", top)?;
-    html.put_mark("h")?;
-    put_fixed(html, wide, 2)?;
-    html.put_whole("v", tall)?;
-    html.put_mark("h-")?;
-    put_fixed(html, wide, 2)?;
-    html.put_mark("z")
+    html.put_mark("M");
+    html.put_fixed(bar.from, 2);
+    html.put_whole(" ", top);
+    html.put_mark("h");
+    html.put_fixed(wide, 2);
+    html.put_whole("v", tall);
+    html.put_mark("h-");
+    html.put_fixed(wide, 2);
+    html.put_mark("z");
 }
 
 /// Puts the cuts between two times that follow one another.
-fn put_cuts(html: &mut Markup, span: Span, cuts: &[Cut]) -> Done {
+fn put_cuts(html: &mut Markup, span: Span, cuts: &[Cut]) {
     let mut is_begun = false;
     for cut in cuts {
         let before = Bar::of(
@@ -145,33 +145,32 @@ fn put_cuts(html: &mut Markup, span: Span, cuts: &[Cut]) -> Done {
             continue;
         }
         if !is_begun {
-            begin_path(html, "cuts")?;
+            begin_path(html, "cuts");
             is_begun = true;
         }
-        html.put_mark("M")?;
-        put_fixed(html, at, 2)?;
-        html.put_mark(" 2v14")?;
+        html.put_mark("M");
+        html.put_fixed(at, 2);
+        html.put_mark(" 2v14");
     }
-    if is_begun { end_path(html) } else { Ok(()) }
+    if is_begun {
+        end_path(html);
+    }
 }
 
 /// Puts the times into bars that have room for them. A time stands there where it fits whole: what comes behind a break of the line is out
 /// of sight.
-fn put_values(html: &mut Markup, span: Span, runs: &[LongRun], rate: Rate) -> Done {
+fn put_values(html: &mut Markup, span: Span, runs: &[LongRun], rate: Rate) {
     for run in runs {
         if !is_long(run.from_us, run.to_us, span.lasts_us()) {
             continue;
         }
         let (from, to) = (span.part(run.from_us, WIDE), span.part(run.to_us, WIDE));
-        html.put_mark("<div class=\"time\" style=\"left:")?;
-        put_fixed(html, from, 3)?;
-        html.put_mark("%;width:")?;
-        put_fixed(html, to.saturating_sub(from), 3)?;
-        html.put_mark("%\"><i>&#8203;</i><b>")?;
-        let mut value = Vec::new(html.alloc());
-        run.value.put(&mut value, rate)?;
-        html.put_foreign(value.as_slice())?;
-        html.put_mark("</b></div>\n")?;
+        html.put_mark("<div class=\"time\" style=\"left:");
+        html.put_fixed(from, 3);
+        html.put_mark("%;width:");
+        html.put_fixed(to.saturating_sub(from), 3);
+        html.put_mark("%\"><i>&#8203;</i><b>");
+        html.put_with(|value| run.value.put(value, rate));
+        html.put_mark("</b></div>\n");
     }
-    Ok(())
 }

@@ -34,8 +34,6 @@ mod session;
 mod span;
 mod style;
 mod table;
-#[cfg(test)]
-mod tests;
 mod touches;
 mod traffic;
 

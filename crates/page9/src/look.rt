@@ -1,9 +1,7 @@
 //! What to look at: what the deck did after each transport command that it acknowledged.
 
-use crate::html::{
-    begin_line, end_line, put_counted, put_note, put_rest, put_seconds, put_thousands,
-};
-use crate::table::{put_number_cell, put_row_head, put_table_head};
+use crate::html::{begin_line, end_line, put_counted, put_note, put_rest, put_seconds};
+use crate::table::{put_number_cell, put_table_head};
 use deck9::Profile;
 use picture9::{Done, Markup};
 use std::alloc::{AllocError, Global};
@@ -67,69 +65,71 @@ impl<'a> Look<'a> {
     }
 
     /// Puts the section, after the end of the last part.
-    pub(crate) fn put(&self, html: &mut Markup) -> Done {
-        html.put_mark("<section id=\"look\"><h2>What to look at</h2>\n")?;
+    pub(crate) fn put(&self, html: &mut Markup) {
+        html.put_mark("<section id=\"look\"><h2>What to look at</h2>\n");
         if self.commands.count == 0 && self.worth.count == 0 {
-            return html.put_mark("<p>No transport command was acknowledged.</p></section>\n");
+            html.put_mark("<p>No transport command was acknowledged.</p></section>\n");
+            return;
         }
         put_note(
             html,
             "What the deck did after each transport command that it acknowledged. Nothing here breaks a rule: a deck may take any time.",
-        )?;
-        self.put_worth(html)?;
-        self.put_responses(html)?;
+        );
+        self.put_worth(html);
+        self.put_responses(html);
         if self.commands.count > 0 {
-            html.put_mark("<details><summary>")?;
+            html.put_mark("<details><summary>");
             put_counted(
                 html,
                 self.commands.count,
                 "transport command",
                 "transport commands, one by one",
-            )?;
-            html.put_mark("</summary>\n")?;
-            self.commands.put(html, 0, MOST_LISTED)?;
-            html.put_mark("</details>\n")?;
+            );
+            html.put_mark("</summary>\n");
+            self.commands.put(html, 0, MOST_LISTED);
+            html.put_mark("</details>\n");
         }
-        html.put_mark("</section>\n")
+        html.put_mark("</section>\n");
     }
 
     /// Puts what is worth looking at: the first lines in sight, and the others behind them.
-    fn put_worth(&self, html: &mut Markup) -> Done {
+    fn put_worth(&self, html: &mut Markup) {
         if self.worth.count == 0 {
-            return html.put_mark("<p>Nothing stands out.</p>\n");
+            html.put_mark("<p>Nothing stands out.</p>\n");
+            return;
         }
-        html.put_mark("<p>Worth looking at: ")?;
-        put_thousands(html, self.worth.count)?;
-        html.put_mark(".</p>\n")?;
+        html.put_mark("<p>Worth looking at: ");
+        html.put_thousands(self.worth.count);
+        html.put_mark(".</p>\n");
         let others = self.worth.count.saturating_sub(IN_SIGHT as u64);
-        self.worth.put(html, 0, IN_SIGHT)?;
+        self.worth.put(html, 0, IN_SIGHT);
         if others == 0 {
-            return Ok(());
+            return;
         }
-        html.put_mark("<details><summary>")?;
-        put_thousands(html, others)?;
-        html.put_mark(" more</summary>\n")?;
-        self.worth.put(html, IN_SIGHT, MOST_LISTED)?;
-        html.put_mark("</details>\n")
+        html.put_mark("<details><summary>");
+        html.put_thousands(others);
+        html.put_mark(" more</summary>\n");
+        self.worth.put(html, IN_SIGHT, MOST_LISTED);
+        html.put_mark("</details>\n");
     }
 
     /// Puts the table of the responses, where a command with a mode of its own was acknowledged.
-    fn put_responses(&self, html: &mut Markup) -> Done {
+    fn put_responses(&self, html: &mut Markup) {
         let outcomes = self.motion.outcomes();
         if outcomes.len() == 0 {
-            return Ok(());
+            return;
         }
         put_table_head(
             html,
             "Transport command|Acknowledged|Mode shown|Never shown|Slowest, s|at record",
             false,
-        )?;
+        );
         for place in 0..outcomes.len() {
             if let Some((called, outcome)) = outcomes.get(place) {
-                put_outcome(html, called, &outcome)?;
+                put_outcome(html, called, &outcome);
             }
         }
-        html.put_mark("</tbody></table></div>\n")
+        html.put_mark("</tbody></table></div>\n");
     }
 }
 
@@ -149,44 +149,44 @@ impl Listed {
             return Ok(());
         }
         let mut html = Markup::new(*self.lines.allocator());
-        begin_line(&mut html, "", line.place.time_us, line.place.record)?;
-        html.put_foreign(line.text)?;
-        end_line(&mut html)?;
+        begin_line(&mut html, "", line.place.time_us, line.place.record);
+        html.put_foreign(line.text);
+        end_line(&mut html);
         self.lines.push(html)?;
         Ok(())
     }
 
     /// Puts the lines from one place on to another, counted from 0, and after the last that is kept how many are left out.
-    fn put(&self, html: &mut Markup, from: usize, to: usize) -> Done {
-        html.put_mark("<ol class=\"lines\">\n")?;
+    fn put(&self, html: &mut Markup, from: usize, to: usize) {
+        html.put_mark("<ol class=\"lines\">\n");
         let to = to.min(self.lines.len());
         for line in self.lines.as_slice().get(from..to).unwrap_or(&[]) {
-            html.put_piece(line)?;
+            html.put_piece(line);
         }
-        html.put_mark("</ol>\n")?;
+        html.put_mark("</ol>\n");
         if to < MOST_LISTED {
-            return Ok(());
+            return;
         }
         let others = self.count.saturating_sub(MOST_LISTED as u64);
-        put_rest(html, others, ("more is", "more are"), "motion")
+        put_rest(html, others, ("more is", "more are"), "motion");
     }
 }
 
 /// Puts the row of a command.
-fn put_outcome(html: &mut Markup, called: Called<'_>, outcome: &Outcome) -> Done {
-    let mut name = Vec::new(html.alloc());
-    called.put(&mut name)?;
-    put_row_head(html, name.as_slice())?;
-    put_number_cell(html, Some(u64::from(outcome.commands)))?;
-    put_number_cell(html, Some(u64::from(outcome.shown)))?;
-    put_number_cell(html, Some(u64::from(outcome.never)))?;
-    html.put_mark("<td>")?;
+fn put_outcome(html: &mut Markup, called: Called<'_>, outcome: &Outcome) {
+    html.put_mark("<tr><th scope=\"row\">");
+    html.put_with(|name| called.put(name));
+    html.put_mark("</th>");
+    put_number_cell(html, Some(u64::from(outcome.commands)));
+    put_number_cell(html, Some(u64::from(outcome.shown)));
+    put_number_cell(html, Some(u64::from(outcome.never)));
+    html.put_mark("<td>");
     match outcome.slowest_us {
-        Some(us) => put_seconds(html, us)?,
-        None => html.put_mark("&ndash;")?,
+        Some(us) => put_seconds(html, us),
+        None => html.put_mark("&ndash;"),
     }
-    html.put_mark("</td>")?;
+    html.put_mark("</td>");
     let is_shown = outcome.slowest_us.is_some();
-    put_number_cell(html, is_shown.then_some(u64::from(outcome.slowest_at)))?;
-    html.put_mark("</tr>\n")
+    put_number_cell(html, is_shown.then_some(u64::from(outcome.slowest_at)));
+    html.put_mark("</tr>\n");
 }

@@ -1,6 +1,6 @@
 //! The modes over time: a row for each mode, with bars where it was shown and lines where it was commanded.
 
-use crate::html::{begin_path, end_path, put_fixed};
+use crate::html::{begin_path, end_path};
 use crate::modes::{CELLS, Cell, ModeOverTime, ROWS};
 use crate::session::{begin_lane, begin_lane_chart};
 use crate::span::Span;
@@ -26,18 +26,19 @@ pub(crate) fn put_modes(
     if rows == 0 {
         return Ok(());
     }
-    begin_lane(html, "")?;
+    begin_lane(html, "");
     html.put_mark(
         "<b>Shown mode</b> <span>and, as a line, the <span class=\"of-goal\">commanded</span> one</span>",
-    )?;
-    begin_lane_chart(html, rows.saturating_mul(ROW_TALL))?;
-    html.put_mark("Shown and commanded mode over time: ")?;
-    put_names(html, shown, commanded, ", ", "")?;
-    html.put_mark("</title><use href=\"#g\"/>\n")?;
+    );
+    begin_lane_chart(html, rows.saturating_mul(ROW_TALL));
+    html.put_mark("Shown and commanded mode over time: ");
+    put_names(html, shown, commanded, ", ", "");
+    html.put_mark("</title><use href=\"#g\"/>\n");
     put_rows(html, span, shown, commanded)?;
-    html.put_mark("</svg></div><div class=\"scale modes\">")?;
-    put_names(html, shown, commanded, "</span><span>", "<span>")?;
-    html.put_mark("</span></div></div>\n")
+    html.put_mark("</svg></div><div class=\"scale modes\">");
+    put_names(html, shown, commanded, "</span><span>", "<span>");
+    html.put_mark("</span></div></div>\n");
+    Ok(())
 }
 
 /// Whether a mode has a row.
@@ -52,16 +53,15 @@ fn put_names(
     commanded: &ModeOverTime,
     between: &'static str,
     before: &'static str,
-) -> Done {
+) {
     let mut mark = before;
     for mode in ROWS {
         if has_row(shown, commanded, mode) {
-            html.put_mark(mark)?;
-            html.put_mark(mode.name())?;
+            html.put_mark(mark);
+            html.put_mark(mode.name());
             mark = between;
         }
     }
-    Ok(())
 }
 
 /// Puts the rows.
@@ -73,38 +73,38 @@ fn put_rows(html: &mut Markup, span: Span, shown: &ModeOverTime, commanded: &Mod
         if !has_row(shown, commanded, mode) {
             continue;
         }
-        put_foot(html, foot)?;
-        begin_path(html, "state")?;
-        put_bars(html, shown_cells.as_slice(), span, mode, foot)?;
-        end_path(html)?;
-        begin_path(html, "goal")?;
-        put_lines(html, commanded_cells.as_slice(), mode, foot)?;
-        end_path(html)?;
+        put_foot(html, foot);
+        begin_path(html, "state");
+        put_bars(html, shown_cells.as_slice(), span, mode, foot);
+        end_path(html);
+        begin_path(html, "goal");
+        put_lines(html, commanded_cells.as_slice(), mode, foot);
+        end_path(html);
         foot = foot.saturating_add(ROW_TALL);
     }
     Ok(())
 }
 
 /// Puts the line at the foot of a row.
-fn put_foot(html: &mut Markup, foot: u64) -> Done {
-    begin_path(html, "row")?;
-    html.put_whole("M0 ", foot)?;
-    html.put_mark(".5H1000")?;
-    end_path(html)
+fn put_foot(html: &mut Markup, foot: u64) {
+    begin_path(html, "row");
+    html.put_whole("M0 ", foot);
+    html.put_mark(".5H1000");
+    end_path(html);
 }
 
 /// Puts bars of 2 to 10 pixels above the foot of a row; neighbours of one height are one bar.
-fn put_bars(html: &mut Markup, cells: &[Cell], span: Span, mode: Mode, foot: u64) -> Done {
+fn put_bars(html: &mut Markup, cells: &[Cell], span: Span, mode: Mode, foot: u64) {
     let mut open: Option<u64> = None;
     for (place, cell) in cells.iter().enumerate() {
         let tall = bar_tall(cell.held_us(mode), span.lasts_us());
         if tall != open {
-            end_bar(html, open, place as u64)?;
-            begin_bar(html, tall, place as u64, foot)?;
+            end_bar(html, open, place as u64);
+            begin_bar(html, tall, place as u64, foot);
             open = tall;
         }
     }
-    end_bar(html, open, CELLS)
+    end_bar(html, open, CELLS);
 }
 
 /// How tall a bar is, in tenths of a pixel, of a mode that was shown for so long in a cell; none where it was not.
@@ -122,53 +122,52 @@ fn bar_tall(held_us: u64, lasts_us: u64) -> Option<u64> {
 }
 
 /// Begins a bar at a cell, where there is one.
-fn begin_bar(html: &mut Markup, tall: Option<u64>, cell: u64, foot: u64) -> Done {
+fn begin_bar(html: &mut Markup, tall: Option<u64>, cell: u64, foot: u64) {
     let Some(tall) = tall else {
-        return Ok(());
+        return;
     };
-    html.put_mark("M")?;
-    put_cell_x(html, cell)?;
-    html.put_whole(" ", foot)?;
-    html.put_mark("v-")?;
-    put_fixed(html, tall, 1)
+    html.put_mark("M");
+    put_cell_x(html, cell);
+    html.put_whole(" ", foot);
+    html.put_mark("v-");
+    html.put_fixed(tall, 1);
 }
 
 /// Ends a bar before a cell, where one is open.
-fn end_bar(html: &mut Markup, tall: Option<u64>, cell: u64) -> Done {
+fn end_bar(html: &mut Markup, tall: Option<u64>, cell: u64) {
     let Some(tall) = tall else {
-        return Ok(());
+        return;
     };
-    html.put_mark("H")?;
-    put_cell_x(html, cell)?;
-    html.put_mark("v")?;
-    put_fixed(html, tall, 1)?;
-    html.put_mark("z")
+    html.put_mark("H");
+    put_cell_x(html, cell);
+    html.put_mark("v");
+    html.put_fixed(tall, 1);
+    html.put_mark("z");
 }
 
 /// Puts lines above the bars of a row, where its mode was commanded.
-fn put_lines(html: &mut Markup, cells: &[Cell], mode: Mode, foot: u64) -> Done {
+fn put_lines(html: &mut Markup, cells: &[Cell], mode: Mode, foot: u64) {
     let mut is_open = false;
     for (place, cell) in cells.iter().enumerate() {
         let is_held = cell.held_us(mode) > 0;
         if is_held == is_open {
             continue;
         }
-        html.put_mark(if is_held { "M" } else { "H" })?;
-        put_cell_x(html, place as u64)?;
+        html.put_mark(if is_held { "M" } else { "H" });
+        put_cell_x(html, place as u64);
         if is_held {
-            html.put_whole(" ", foot.saturating_sub(11))?;
-            html.put_mark(".5")?;
+            html.put_whole(" ", foot.saturating_sub(11));
+            html.put_mark(".5");
         }
         is_open = is_held;
     }
-    html.put_mark(if is_open { "H1000" } else { "" })
+    html.put_mark(if is_open { "H1000" } else { "" });
 }
 
 /// Puts where a cell begins in a chart that is 1,000 wide.
-fn put_cell_x(html: &mut Markup, cell: u64) -> Done {
-    put_fixed(
-        html,
+fn put_cell_x(html: &mut Markup, cell: u64) {
+    html.put_fixed(
         cell.saturating_mul(100_000).saturating_add(CELLS / 2) / CELLS,
         2,
-    )
+    );
 }

@@ -95,7 +95,7 @@ pub fn write_page<R: Read + Drop, W: Write>(
         &found,
         (whole, shown),
     )?;
-    write_all(writer, html.as_slice())?;
+    write_all(writer, html.whole()?)?;
     Ok(ending)
 }
 
@@ -166,17 +166,17 @@ fn put_page(
         whole,
         shown,
     };
-    put_title(html, page, following.breaks.count())?;
-    put_head(html, page, profile, &told, &found.signs, again.options)?;
+    put_title(html, page, following.breaks.count());
+    put_head(html, page, profile, &told, &found.signs, again.options);
     let touches = &following.touches;
     following
         .session
         .put(html, shown, reasons.as_slice(), touches)?;
     following.breaks.put(html, &again, &doubts)?;
     following.happened.put(html)?;
-    following.touches.put(html)?;
+    following.touches.put(html);
     following.delays.put(html)?;
-    following.look.put(html)?;
+    following.look.put(html);
     put_known(html, &following.strength)?;
     put_footer(html, page, &following.totals, &again)
 }

@@ -101,12 +101,13 @@ impl Session {
         reasons: &[ReasonCount],
         touches: &Touches<'_>,
     ) -> Done {
-        html.put_mark("<section id=\"session\"><h2>The whole session</h2>\n")?;
+        html.put_mark("<section id=\"session\"><h2>The whole session</h2>\n");
         match span {
             Some(span) => self.put_figure(html, span, reasons, touches)?,
-            None => html.put_mark("<p>The capture has no records.</p>")?,
+            None => html.put_mark("<p>The capture has no records.</p>"),
         }
-        html.put_mark("</section>\n")
+        html.put_mark("</section>\n");
+        Ok(())
     }
 
     /// Puts the picture of a session that lasts so long.
@@ -118,29 +119,30 @@ impl Session {
         touches: &Touches<'_>,
     ) -> Done {
         let axis = Axis::of(span);
-        html.put_mark("<p class=\"note\">Time runs to the right, ")?;
-        html.put_mark(axis.clock.name())?;
+        html.put_mark("<p class=\"note\">Time runs to the right, ");
+        html.put_mark(axis.clock.name());
         html.put_mark(
             " on the capture&rsquo;s clock. <b>Blank means not known.</b></p>\n\
             <figure><figcaption class=\"hidden\">Breaks, traffic, reply delays and what was known of the deck, over time. \
             The breaks are listed below, and the delays and what was known have tables.</figcaption>\n",
-        )?;
-        put_ground(html, span, axis, self.marks.hairlines_us())?;
-        html.put_mark("<div class=\"lanes\">\n")?;
-        put_marks(html, span, &self.marks, reasons)?;
-        html.put_mark("</div><div class=\"lanes\">\n")?;
+        );
+        put_ground(html, span, axis, self.marks.hairlines_us());
+        html.put_mark("<div class=\"lanes\">\n");
+        put_marks(html, span, &self.marks, reasons);
+        html.put_mark("</div><div class=\"lanes\">\n");
         if self.bins.exchanges() == 0 {
-            put_note(html, "Traffic, Reply delay: no exchange is complete")?;
+            put_note(html, "Traffic, Reply delay: no exchange is complete");
         } else {
             self.put_lanes(html, span)?;
-            touches.put_lane(html, span)?;
+            touches.put_lane(html, span);
         }
-        put_axis(html, span, axis)?;
-        html.put_mark("</div>\n")?;
+        put_axis(html, span, axis);
+        html.put_mark("</div>\n");
         if self.bins.exchanges() > 0 {
-            self.put_key(html)?;
+            self.put_key(html);
         }
-        html.put_mark("</figure>")
+        html.put_mark("</figure>");
+        Ok(())
     }
 
     /// Puts the lanes of exchanges.
@@ -151,16 +153,16 @@ impl Session {
         put_modes(html, span, &self.shown, &self.commanded)?;
         for lane in self.lanes.as_slice() {
             if lane.is_drawn() {
-                put_lane(html, span, lane, self.rate)?;
+                put_lane(html, span, lane, self.rate);
             }
         }
         Ok(())
     }
 
     /// Puts what is not drawn, since it was never known, and what the bars mean.
-    fn put_key(&self, html: &mut Markup) -> Done {
-        html.put_mark("<div class=\"below\">\n")?;
-        self.put_never_known(html)?;
+    fn put_key(&self, html: &mut Markup) {
+        html.put_mark("<div class=\"below\">\n");
+        self.put_never_known(html);
         let (yes, no) = match self.hands {
             Hands::None => ("set, time known (Local: yes)", "clear (Local: no)"),
             Hands::Allowed => (
@@ -168,30 +170,30 @@ impl Session {
                 "clear (Local: no, Panel: off)",
             ),
         };
-        html.put_mark("<ul class=\"key\">\n")?;
-        put_sample(html, ("state", "M0 0h26v14h-26z"), yes)?;
-        put_sample(html, ("half", "M0 7h26v7h-26z"), "set, time not known")?;
-        put_sample(html, ("clear", "M0 12h26v2h-26z"), no)?;
-        put_sample(html, ("blank", "M0.5 0.5h25v13h-25z"), "not known")?;
-        html.put_mark("</ul></div>\n")
+        html.put_mark("<ul class=\"key\">\n");
+        put_sample(html, ("state", "M0 0h26v14h-26z"), yes);
+        put_sample(html, ("half", "M0 7h26v7h-26z"), "set, time not known");
+        put_sample(html, ("clear", "M0 12h26v2h-26z"), no);
+        put_sample(html, ("blank", "M0.5 0.5h25v13h-25z"), "not known");
+        html.put_mark("</ul></div>\n");
     }
 
     /// Puts what was never known.
-    fn put_never_known(&self, html: &mut Markup) -> Done {
+    fn put_never_known(&self, html: &mut Markup) {
         let mut is_begun = false;
         if !self.is_mode_known {
-            html.put_mark("<p>Never known: Shown mode")?;
+            html.put_mark("<p>Never known: Shown mode");
             is_begun = true;
         }
         for lane in self.lanes.as_slice() {
             if lane.is_drawn() || is_audio(lane.field) {
                 continue;
             }
-            html.put_mark(if is_begun { ", " } else { "<p>Never known: " })?;
-            html.put_mark(lane_name(lane.field))?;
+            html.put_mark(if is_begun { ", " } else { "<p>Never known: " });
+            html.put_mark(lane_name(lane.field));
             is_begun = true;
         }
-        html.put_mark(if is_begun { "</p>\n" } else { "" })
+        html.put_mark(if is_begun { "</p>\n" } else { "" });
     }
 }
 
@@ -222,77 +224,73 @@ fn known_mode(known: &Known<Mode>) -> Option<Mode> {
 
 /// Puts the head of a lane up to its label's words. Where a narrow page has no room for a label above the chart, it stands in the
 /// scale.
-pub(crate) fn begin_lane(html: &mut Markup, look: &'static str) -> Done {
-    html.put_mark("<div class=\"lane")?;
-    html.put_mark(look)?;
-    html.put_mark("\"><div class=\"label\">")
+pub(crate) fn begin_lane(html: &mut Markup, look: &'static str) {
+    html.put_mark("<div class=\"lane");
+    html.put_mark(look);
+    html.put_mark("\"><div class=\"label\">");
 }
 
 /// Puts the head of a chart so many pixels tall, up to its title's words.
-pub(crate) fn begin_lane_chart(html: &mut Markup, tall: u64) -> Done {
-    html.put_whole("</div>\n<div class=\"chart\" style=\"height:", tall)?;
-    html.put_mark("px\">")?;
-    begin_chart(html, tall)
+pub(crate) fn begin_lane_chart(html: &mut Markup, tall: u64) {
+    html.put_whole("</div>\n<div class=\"chart\" style=\"height:", tall);
+    html.put_mark("px\">");
+    begin_chart(html, tall);
 }
 
 /// Puts what stands behind each lane: dotted lines at the ticks, and a line at each break where there are few.
-fn put_ground(html: &mut Markup, span: Span, axis: Axis, hairlines_us: &[u64]) -> Done {
-    html.put_mark("<svg class=\"ground\" aria-hidden=\"true\"><defs><g id=\"g\">")?;
-    begin_path(html, "ticks")?;
+fn put_ground(html: &mut Markup, span: Span, axis: Axis, hairlines_us: &[u64]) {
+    html.put_mark("<svg class=\"ground\" aria-hidden=\"true\"><defs><g id=\"g\">");
+    begin_path(html, "ticks");
     for tick in 0..axis.ticks() {
         let since_us = axis.tick_us(tick).saturating_sub(span.from_us);
-        put_down(html, span, since_us)?;
+        put_down(html, span, since_us);
     }
-    end_path(html)?;
-    put_hairlines(html, span, hairlines_us)?;
-    html.put_mark("</g></defs></svg>\n")
+    end_path(html);
+    put_hairlines(html, span, hairlines_us);
+    html.put_mark("</g></defs></svg>\n");
 }
 
 /// Puts a line at each of these times.
-fn put_hairlines(html: &mut Markup, span: Span, hairlines_us: &[u64]) -> Done {
+fn put_hairlines(html: &mut Markup, span: Span, hairlines_us: &[u64]) {
     if hairlines_us.is_empty() {
-        return Ok(());
+        return;
     }
-    begin_path(html, "hair")?;
+    begin_path(html, "hair");
     for since_us in hairlines_us {
-        put_down(html, span, *since_us)?;
+        put_down(html, span, *since_us);
     }
-    end_path(html)
+    end_path(html);
 }
 
 /// Puts the steps of a line from the top of a chart to its foot.
-fn put_down(html: &mut Markup, span: Span, since_us: u64) -> Done {
-    html.put_mark("M")?;
-    span.put_x(html, since_us)?;
-    html.put_mark(" 0V130")
+fn put_down(html: &mut Markup, span: Span, since_us: u64) {
+    html.put_mark("M");
+    span.put_x(html, since_us);
+    html.put_mark(" 0V130");
 }
 
 /// Puts the axis of time.
-fn put_axis(html: &mut Markup, span: Span, axis: Axis) -> Done {
-    begin_lane(html, " thin")?;
-    html.put_mark("</div>\n<div class=\"chart axis\">\n")?;
+fn put_axis(html: &mut Markup, span: Span, axis: Axis) {
+    begin_lane(html, " thin");
+    html.put_mark("</div>\n<div class=\"chart axis\">\n");
     for tick in 0..axis.ticks() {
         let us = axis.tick_us(tick);
-        html.put_mark("<span style=\"left:")?;
-        span.put_percent(html, us.saturating_sub(span.from_us))?;
-        html.put_mark("\">")?;
-        axis.put_tick(html, us)?;
-        html.put_mark("</span>\n")?;
+        html.put_mark("<span style=\"left:");
+        span.put_percent(html, us.saturating_sub(span.from_us));
+        html.put_mark("\">");
+        axis.put_tick(html, us);
+        html.put_mark("</span>\n");
     }
-    html.put_mark("</div><div class=\"scale\"></div></div>\n")
+    html.put_mark("</div><div class=\"scale\"></div></div>\n");
 }
 
 /// Puts what a bar means.
-fn put_sample(
-    html: &mut Markup,
-    (look, path): (&'static str, &'static str),
-    words: &'static str,
-) -> Done {
-    html.put_mark("<li><svg width=\"26\" height=\"14\" aria-hidden=\"true\">")?;
-    begin_path(html, look)?;
-    html.put_mark(path)?;
-    end_path(html)?;
-    html.put_mark("</svg>")?;
-    html.put_mark(words)?;
-    html.put_mark("</li>\n")
+fn put_sample(html: &mut Markup, (look, path): (&'static str, &'static str), words: &'static str) {
+    html.put_mark("<li><svg width=\"26\" height=\"14\" aria-hidden=\"true\">");
+    begin_path(html, look);
+    html.put_mark(path);
+    end_path(html);
+    html.put_mark("</svg>");
+    html.put_mark(words);
+    html.put_mark("</li>\n");
 }

@@ -1,7 +1,6 @@
 //! The time that the page shows, and where a time stands in it.
 
-use crate::html::put_fixed;
-use picture9::{Done, Markup};
+use picture9::Markup;
 
 /// The stretch of a capture that the page shows, while the capture is read.
 #[derive(Clone, Copy, Debug, PartialEq, Eq)]
@@ -63,13 +62,13 @@ impl Span {
     }
 
     /// Puts where a time since the beginning stands in a chart that is 1,000 wide.
-    pub(crate) fn put_x(self, html: &mut Markup, since_us: u64) -> Done {
-        put_fixed(html, self.part(since_us, 100_000), 2)
+    pub(crate) fn put_x(self, html: &mut Markup, since_us: u64) {
+        html.put_fixed(self.part(since_us, 100_000), 2);
     }
 
     /// Puts where a time since the beginning stands, in per cent of the width.
-    pub(crate) fn put_percent(self, html: &mut Markup, since_us: u64) -> Done {
-        put_fixed(html, self.part(since_us, 100_000), 3)?;
-        html.put_mark("%")
+    pub(crate) fn put_percent(self, html: &mut Markup, since_us: u64) {
+        html.put_fixed(self.part(since_us, 100_000), 3);
+        html.put_mark("%");
     }
 }

@@ -1,6 +1,6 @@
 //! How the page looks. Each colour has one meaning and a name.
 
-use picture9::{Done, Markup};
+use picture9::Markup;
 
 /// The colours, light and dark. Only what breaks a rule is red.
 const COLOURS: &str = "\
@@ -237,19 +237,19 @@ const PRINT: &str = "\
 ";
 
 /// Puts the style of the page.
-pub(crate) fn put_style(html: &mut Markup) -> Done {
-    html.put_mark("<style>\n")?;
-    html.put_mark(COLOURS)?;
-    html.put_mark(TYPE)?;
-    html.put_mark(HEAD)?;
-    html.put_mark(LANES)?;
-    html.put_mark(CHARTS)?;
-    html.put_mark(LISTS)?;
-    html.put_mark(TABLES)?;
-    html.put_mark(BREAKS)?;
-    html.put_mark(PICTURES)?;
-    html.put_mark(NARROW_BREAKS)?;
-    html.put_mark(NARROW)?;
-    html.put_mark(PRINT)?;
-    html.put_mark("</style>\n")
+pub(crate) fn put_style(html: &mut Markup) {
+    html.put_mark("<style>\n");
+    html.put_mark(COLOURS);
+    html.put_mark(TYPE);
+    html.put_mark(HEAD);
+    html.put_mark(LANES);
+    html.put_mark(CHARTS);
+    html.put_mark(LISTS);
+    html.put_mark(TABLES);
+    html.put_mark(BREAKS);
+    html.put_mark(PICTURES);
+    html.put_mark(NARROW_BREAKS);
+    html.put_mark(NARROW);
+    html.put_mark(PRINT);
+    html.put_mark("</style>\n");
 }

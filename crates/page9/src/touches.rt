@@ -1,11 +1,11 @@
 //! Where somebody must have touched the panel: marks in the picture of the session, and a list.
 
-use crate::html::{begin_line, end_line, put_counted, put_note, put_thousands};
+use crate::html::{begin_line, end_line, put_counted, put_note};
 use crate::mark_rows::put_strokes;
 use crate::session::begin_lane;
 use crate::span::{Span, Window};
 use deck9::{Hands, Profile};
-use picture9::{Done, Markup};
+use picture9::Markup;
 use report9::Stretch;
 use std::alloc::{AllocError, Global};
 use view9::{SeenExchange, Touch, Touched};
@@ -80,68 +80,67 @@ impl<'a> Touches<'a> {
     }
 
     /// Puts their lane in the picture of a session that lasts so long.
-    pub(crate) fn put_lane(&self, html: &mut Markup, span: Span) -> Done {
+    pub(crate) fn put_lane(&self, html: &mut Markup, span: Span) {
         if !self.may_be() {
-            return Ok(());
+            return;
         }
-        begin_lane(html, " touch-lane")?;
-        html.put_mark("Touches of the panel</div>\n<div class=\"chart\">")?;
+        begin_lane(html, " touch-lane");
+        html.put_mark("Touches of the panel</div>\n<div class=\"chart\">");
         let mut words = Markup::new(html.alloc());
-        self.put_count(&mut words)?;
-        put_strokes(html, span, ("touches", &words), self.times_us.as_slice())?;
-        html.put_mark("</div><div class=\"scale\">")?;
-        put_thousands(html, self.touches.len() as u64)?;
-        html.put_mark("</div></div>\n")
+        self.put_count(&mut words);
+        put_strokes(html, span, ("touches", &words), self.times_us.as_slice());
+        html.put_mark("</div><div class=\"scale\">");
+        html.put_thousands(self.touches.len() as u64);
+        html.put_mark("</div></div>\n");
     }
 
     /// Puts how many there are.
-    fn put_count(&self, html: &mut Markup) -> Done {
+    fn put_count(&self, html: &mut Markup) {
         let count = self.touches.len() as u64;
-        put_counted(html, count, "touch of the panel", "touches of the panel")
+        put_counted(html, count, "touch of the panel", "touches of the panel");
     }
 
     /// Puts their section, where somebody may touch the panel.
-    pub(crate) fn put(&self, html: &mut Markup) -> Done {
+    pub(crate) fn put(&self, html: &mut Markup) {
         if !self.may_be() {
-            return Ok(());
+            return;
         }
-        html.put_mark("<section id=\"touches\"><h2>Touches of the panel</h2>\n")?;
+        html.put_mark("<section id=\"touches\"><h2>Touches of the panel</h2>\n");
         if self.is_unknown {
             put_note(
                 html,
                 "Of some part the search found no run: its touches are not known.",
-            )?;
+            );
         }
         if self.touches.is_empty() {
             if !self.is_unknown {
-                html.put_mark("<p>Nobody need have touched the panel in what is shown.</p>\n")?;
+                html.put_mark("<p>Nobody need have touched the panel in what is shown.</p>\n");
             }
-            return html.put_mark("</section>\n");
+            html.put_mark("</section>\n");
+            return;
         }
         put_note(
             html,
             "Each comes between the record that is named and the one before it. With fewer, no deck can have given the replies; as many may have come at other places.",
-        )?;
-        html.put_mark("<ol class=\"lines\">\n")?;
+        );
+        html.put_mark("<ol class=\"lines\">\n");
         for touch in self.touches.iter().take(MOST_LISTED) {
-            self.put_touch(html, touch)?;
+            self.put_touch(html, touch);
         }
-        html.put_mark("</ol>\n")?;
+        html.put_mark("</ol>\n");
         let others = self.touches.len().saturating_sub(MOST_LISTED) as u64;
         if others > 0 {
-            html.put_mark("<p class=\"note\">")?;
-            put_counted(html, others, "more is", "more are")?;
-            html.put_mark(" not listed.</p>\n")?;
+            html.put_mark("<p class=\"note\">");
+            put_counted(html, others, "more is", "more are");
+            html.put_mark(" not listed.</p>\n");
         }
-        html.put_mark("</section>\n")
+        html.put_mark("</section>\n");
     }
 
     /// Puts the line of a touch.
-    fn put_touch(&self, html: &mut Markup, touch: &Touch) -> Done {
-        let mut changes = Vec::new(html.alloc());
-        touch.put_changes(&mut changes, self.profile.rate)?;
-        begin_line(html, "", touch.before.time_us, touch.before.record)?;
-        html.put_foreign(changes.as_slice())?;
-        end_line(html)
+    fn put_touch(&self, html: &mut Markup, touch: &Touch) {
+        begin_line(html, "", touch.before.time_us, touch.before.record);
+        html.put_with(|changes| touch.put_changes(changes, self.profile.rate));
+        end_line(html);
     }
 }

@@ -1,7 +1,7 @@
 //! How many exchanges there are a second, as numbers that stand beside a chart.
 
-use crate::html::{put_padded, put_thousands};
-use picture9::{Done, Markup};
+use crate::html::put_padded;
+use picture9::Markup;
 
 /// Exchanges in 10^9 seconds.
 pub(crate) type Traffic = u128;
@@ -29,7 +29,7 @@ pub(crate) fn round_above(rate: Traffic) -> Traffic {
 }
 
 /// Puts a number as short as it goes: from 10 on a whole one, from 1 on with one decimal at most, and below with nine at most.
-pub(crate) fn put_rate(html: &mut Markup, rate: Traffic) -> Done {
+pub(crate) fn put_rate(html: &mut Markup, rate: Traffic) {
     let (unit, places) = if rate >= 10 * ONE {
         (ONE, 0)
     } else if rate >= ONE {
@@ -38,11 +38,11 @@ pub(crate) fn put_rate(html: &mut Markup, rate: Traffic) -> Done {
         (1, 9)
     };
     let number = rate.saturating_add(unit / 2).checked_div(unit).unwrap_or(0);
-    put_short(html, u64::try_from(number).unwrap_or(u64::MAX), places)
+    put_short(html, u64::try_from(number).unwrap_or(u64::MAX), places);
 }
 
 /// Puts a number with a point before so many of its last digits, without zeros at the end behind the point.
-fn put_short(html: &mut Markup, number: u64, places: u32) -> Done {
+fn put_short(html: &mut Markup, number: u64, places: u32) {
     let (mut number, mut left) = (number, places);
     for _ in 0..places {
         if number % 10 == 0 {
@@ -53,10 +53,9 @@ fn put_short(html: &mut Markup, number: u64, places: u32) -> Done {
         }
     }
     let power = 10u64.checked_pow(left).unwrap_or(1).max(1);
-    put_thousands(html, number / power)?;
+    html.put_thousands(number / power);
     if left > 0 {
-        html.put_mark(".")?;
-        put_padded(html, number % power, left)?;
+        html.put_mark(".");
+        put_padded(html, number % power, left);
     }
-    Ok(())
 }

@@ -1,6 +1,11 @@
--- Foreign text in an SVG or in a page.
-use Rattle.std.specs.Prelude.{◌≢◌, ◌++◌, ◌∷◌, [], ℕ, List, codes, ◌==◌, if◌then◌else◌}
+-- A text that is written piece by piece, and foreign text in an SVG or in a page.
+use Rattle.std.specs.Prelude.{◌≡◌, ◌≢◌, ◌++◌, ◌∷◌, ◌⊎◌, [], ℕ, List, Option, Some, None, codes, ◌==◌, if◌then◌else◌}
 use Rattle.std.specs.List.{All}
+
+-- a piece stands behind the text, or memory was refused, now or before
+abbrev pub IsPut : Option (List ℕ) → Option (List ℕ) → Option (List ℕ) → Type 0
+IsPut before after piece =
+    (after ≡ None) ⊎ ((text more : List ℕ) × ((before ≡ Some text) × (piece ≡ Some more) × (after ≡ Some (text ++ more))))
 
 -- a byte as it is written: those of & < > " have names
 abbrev pub escape_of : ℕ → List ℕ

@@ -37,45 +37,45 @@ pub(crate) fn top_of(wire: Wire) -> u64
 
 /// Draws the records that were chosen, on their wires, and the axis with their times.
 pub(crate) fn draw_around(svg: &mut Markup, layout: &Layout) -> Done {
-    draw_wire(svg, layout, Wire::Controller, "C", "controller")?;
-    draw_wire(svg, layout, Wire::Deck, "D", "deck")?;
-    draw_across(svg, layout, AXIS, Look::Line)?;
+    draw_wire(svg, layout, Wire::Controller, "C", "controller");
+    draw_wire(svg, layout, Wire::Deck, "D", "deck");
+    draw_across(svg, layout, AXIS, Look::Line);
     let has_cuts = draw_cuts(svg, layout)?;
-    draw_measure(svg, layout)?;
-    draw_bytes(svg, layout)?;
-    let has_ties = draw_ties(svg, layout)?;
+    draw_measure(svg, layout);
+    draw_bytes(svg, layout);
+    let has_ties = draw_ties(svg, layout);
     draw_blocks(svg, layout)?;
     draw_times(svg, layout)?;
-    begin_text(svg, (MARGIN, 352), Look::Note)?;
-    svg.put_whole("a box is a byte of ", BYTE_TIME_US)?;
-    svg.put_mark(" &#181;s, from its stamp on")?;
+    begin_text(svg, (MARGIN, 352), Look::Note);
+    svg.put_whole("a box is a byte of ", BYTE_TIME_US);
+    svg.put_mark(" &#181;s, from its stamp on");
     if has_cuts {
-        svg.put_mark("; a silence that is cut has its length beside the cut")?;
+        svg.put_mark("; a silence that is cut has its length beside the cut");
     }
-    end_text(svg)?;
+    end_text(svg);
     if has_ties {
         draw_text(
             svg,
             (MARGIN, 341),
             Look::Note,
             b"bytes that a line joins have one stamp",
-        )?;
+        );
     }
     Ok(())
 }
 
 /// Draws a wire, with its letter and whose it is.
-fn draw_wire(svg: &mut Markup, layout: &Layout, wire: Wire, letter: &str, whose: &str) -> Done {
+fn draw_wire(svg: &mut Markup, layout: &Layout, wire: Wire, letter: &str, whose: &str) {
     let top = top_of(wire);
-    draw_text(svg, (MARGIN, top + 16), Look::WireLetter, letter.as_bytes())?;
-    draw_text(svg, (MARGIN, top + 30), Look::Small, whose.as_bytes())?;
-    draw_across(svg, layout, top + BOX_TALL, Look::Wire)
+    draw_text(svg, (MARGIN, top + 16), Look::WireLetter, letter.as_bytes());
+    draw_text(svg, (MARGIN, top + 30), Look::Small, whose.as_bytes());
+    draw_across(svg, layout, top + BOX_TALL, Look::Wire);
 }
 
 /// Draws a line over the width of the picture.
-fn draw_across(svg: &mut Markup, layout: &Layout, y: u64, look: Look) -> Done {
+fn draw_across(svg: &mut Markup, layout: &Layout, y: u64, look: Look) {
     let right = layout.wide.saturating_sub(MARGIN);
-    draw_line(svg, (WIRES_LEFT, y), (right, y), look)
+    draw_line(svg, (WIRES_LEFT, y), (right, y), look);
 }
 
 /// Draws the silences that are cut, but for the one that is measured: whether there is one.
@@ -105,43 +105,44 @@ fn draw_cut(
     text_y: u64,
 ) -> Done {
     let about = before.end().saturating_add(spot.x) / 2;
-    draw_slashes(svg, about, AXIS)?;
-    draw_slashes(svg, about, top_of(Wire::Controller) + BOX_TALL)?;
-    draw_slashes(svg, about, top_of(Wire::Deck) + BOX_TALL)?;
+    draw_slashes(svg, about, AXIS);
+    draw_slashes(svg, about, top_of(Wire::Controller) + BOX_TALL);
+    draw_slashes(svg, about, top_of(Wire::Deck) + BOX_TALL);
     let mut gone = Vec::new(svg.alloc());
     put_fixed(&mut gone, rounded(spot.since(before), 100), 1)?;
     put_text(&mut gone, " ms")?;
     let middle = rows.place(about, gone.len()).middle;
-    draw_middle(svg, (middle, text_y), Look::Note, gone.as_slice())
+    draw_middle(svg, (middle, text_y), Look::Note, gone.as_slice());
+    Ok(())
 }
 
 /// Draws what the time between the last record and the one that breaks is, over the limit, where it is measured.
-fn draw_measure(svg: &mut Markup, layout: &Layout) -> Done {
+fn draw_measure(svg: &mut Markup, layout: &Layout) {
     let Some((before, limit_us)) = layout.measured else {
-        return Ok(());
+        return;
     };
     let (from, breaking) = (before.x, &layout.breaking);
     let words_left = from.saturating_add(APART);
-    draw_span(svg, from, breaking.x, 178, Look::PassedLine)?;
+    draw_span(svg, from, breaking.x, 178, Look::PassedLine);
     if breaking.is_cut {
         let cut_us = limit_us.saturating_add(DRAWN_US / 2);
-        draw_slashes(svg, from.saturating_add(width_of(cut_us)), 178)?;
+        draw_slashes(svg, from.saturating_add(width_of(cut_us)), 178);
     }
-    begin_text(svg, (words_left, 172), Look::Passed)?;
-    svg.put_thousands(breaking.since(&before))?;
-    svg.put_mark(" &#181;s passed")?;
-    end_text(svg)?;
+    begin_text(svg, (words_left, 172), Look::Passed);
+    svg.put_thousands(breaking.since(&before));
+    svg.put_mark(" &#181;s passed");
+    end_text(svg);
     let to = from.saturating_add(width_of(limit_us));
-    draw_span(svg, from, to, 202, Look::LimitLine)?;
-    begin_text(svg, (words_left, 196), Look::Name)?;
-    svg.put_mark("limit ")?;
-    svg.put_thousands(limit_us)?;
-    svg.put_mark(" &#181;s")?;
-    end_text(svg)
+    draw_span(svg, from, to, 202, Look::LimitLine);
+    begin_text(svg, (words_left, 196), Look::Name);
+    svg.put_mark("limit ");
+    svg.put_thousands(limit_us);
+    svg.put_mark(" &#181;s");
+    end_text(svg);
 }
 
 /// Draws the boxes of the records, the one that breaks as the last, with an arrow.
-fn draw_bytes(svg: &mut Markup, layout: &Layout) -> Done {
+fn draw_bytes(svg: &mut Markup, layout: &Layout) {
     for spot in layout.drawn.as_slice() {
         if layout.is_breaking(spot) {
             continue;
@@ -151,7 +152,7 @@ fn draw_bytes(svg: &mut Markup, layout: &Layout) -> Done {
         } else {
             Standing::Plain
         };
-        draw_spot(svg, spot, standing)?;
+        draw_spot(svg, spot, standing);
     }
     let spot = &layout.breaking;
     let wire = spot.seen.record.wire;
@@ -159,15 +160,15 @@ fn draw_bytes(svg: &mut Markup, layout: &Layout) -> Done {
         Wire::Controller => (top_of(wire) + BOX_TALL + 4, " l -5 12 h 10 z"),
         Wire::Deck => (top_of(wire) - 4, " l -5 -12 h 10 z"),
     };
-    draw_arrow(svg, (spot.middle(), y), path)?;
-    draw_spot(svg, spot, Standing::Breaking)
+    draw_arrow(svg, (spot.middle(), y), path);
+    draw_spot(svg, spot, Standing::Breaking);
 }
 
 /// Draws the box of a record.
-fn draw_spot(svg: &mut Markup, spot: &Spot, standing: Standing) -> Done {
+fn draw_spot(svg: &mut Markup, spot: &Spot, standing: Standing) {
     let record = spot.seen.record;
     let at = (spot.x, top_of(record.wire));
-    draw_box(svg, at, standing, spot.seen.number, record)
+    draw_box(svg, at, standing, spot.seen.number, record);
 }
 
 /// Draws the brackets and names of the blocks, above the controller's boxes and below the deck's.
@@ -202,13 +203,14 @@ fn draw_block(svg: &mut Markup, layout: &Layout, rows: &mut TextRows, begin: &Sp
         Wire::Controller => (112, (" v -5", " v 5"), 102u64.saturating_sub(down)),
         Wire::Deck => (256, (" v 5", " v -5"), 274u64.saturating_add(down)),
     };
-    draw_bracket(svg, (begin.x, y), end, ends)?;
+    draw_bracket(svg, (begin.x, y), end, ends);
     let look = if layout.is_pale(begin) {
         Look::Pale
     } else {
         Look::Name
     };
-    draw_middle(svg, (place.middle, name_y), look, name.as_slice())
+    draw_middle(svg, (place.middle, name_y), look, name.as_slice());
+    Ok(())
 }
 
 /// Puts the name of the block that begins with this record, in brackets where it was not judged.
@@ -241,13 +243,13 @@ fn draw_times(svg: &mut Markup, layout: &Layout) -> Done {
         .middle;
     let room = (text_width(text.len()) / 2).saturating_add(APART);
     let taken = (middle.saturating_sub(room), middle.saturating_add(room));
-    draw_time(svg, (breaking.x, middle), Look::Bold, text.as_slice())?;
+    draw_time(svg, (breaking.x, middle), Look::Bold, text.as_slice());
     let mut rows = TextRows::new(layout.wide, 1);
     for spot in layout.drawn.as_slice() {
         if spot.seen.is_first() && !layout.is_breaking(spot) {
             let text = milliseconds(svg.alloc(), spot.seen.record.time_us)?;
             if let Some(middle) = rows.place_beside(spot.x, text.len(), taken) {
-                draw_time(svg, (spot.x, middle), Look::Time, text.as_slice())?;
+                draw_time(svg, (spot.x, middle), Look::Time, text.as_slice());
             }
         }
     }
@@ -255,7 +257,7 @@ fn draw_times(svg: &mut Markup, layout: &Layout) -> Done {
 }
 
 /// Draws a stroke on the axis, and a stamp about a middle below it.
-fn draw_time(svg: &mut Markup, (tick, middle): (u64, u64), look: Look, text: &[u8]) -> Done {
-    draw_line(svg, (tick, AXIS - 4), (tick, AXIS + 4), Look::Line)?;
-    draw_middle(svg, (middle, AXIS + 18), look, text)
+fn draw_time(svg: &mut Markup, (tick, middle): (u64, u64), look: Look, text: &[u8]) {
+    draw_line(svg, (tick, AXIS - 4), (tick, AXIS + 4), Look::Line);
+    draw_middle(svg, (middle, AXIS + 18), look, text);
 }

@@ -244,7 +244,7 @@ fn draw_window(
     let mut svg = Markup::on_page(alloc);
     put_page_head(&mut svg, layout.wide, about)?;
     draw_around(&mut svg, &layout)?;
-    svg.put_mark("</svg>")?;
+    svg.put_mark("</svg>");
     Ok(Some(svg))
 }
 
@@ -254,12 +254,13 @@ fn put_page_head(svg: &mut Markup, wide: u64, about: &Break) -> Done {
     let tall = TALL - HEAD;
     let mut line = Vec::new(svg.alloc());
     put_no_line(&mut line, about.asked.at, about.reason)?;
-    svg.put_whole("<svg role=\"img\" width=\"", pixels)?;
-    svg.put_whole("\" height=\"", tall)?;
-    svg.put_whole("\" viewBox=\"0 ", HEAD)?;
-    svg.put_whole(" ", pixels)?;
-    svg.put_whole(" ", tall)?;
-    svg.put_mark("\"><title>")?;
-    svg.put_foreign(line.as_slice().strip_suffix(b"\n").unwrap_or(&[]))?;
-    svg.put_mark("</title>\n")
+    svg.put_whole("<svg role=\"img\" width=\"", pixels);
+    svg.put_whole("\" height=\"", tall);
+    svg.put_whole("\" viewBox=\"0 ", HEAD);
+    svg.put_whole(" ", pixels);
+    svg.put_whole(" ", tall);
+    svg.put_mark("\"><title>");
+    svg.put_foreign(line.as_slice().strip_suffix(b"\n").unwrap_or(&[]));
+    svg.put_mark("</title>\n");
+    Ok(())
 }

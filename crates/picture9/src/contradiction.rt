@@ -4,9 +4,10 @@ use crate::exchange_row::ExchangeRow;
 use crate::layout::LEAST_WIDE;
 use crate::look::Look;
 use crate::markup::{Done, Markup};
-use crate::numbers::{PIXEL, milliseconds, put_long_time, text_width};
+use crate::numbers::{PIXEL, put_long_time, put_milliseconds, text_width};
 use crate::shapes::{
-    BOX_TALL, BOX_WIDE, MARGIN, Standing, draw_arrow, draw_box, draw_line, draw_slashes, draw_text,
+    BOX_TALL, BOX_WIDE, MARGIN, Standing, begin_text, draw_arrow, draw_box, draw_line,
+    draw_slashes, draw_text, end_text,
 };
 use deck9::{Knowledge, ModeSet, Profile};
 use report9::{put_count, put_modes, put_text, put_word};
@@ -147,79 +148,74 @@ fn put_known<'a>(
 
 /// Draws the rows: the command's bytes side by side, and the reply's, under their names, and below what the reply says. The last record
 /// of the last row is the one that breaks.
-pub(crate) fn draw_rows(
-    svg: &mut Markup,
-    rows: &[ExchangeRow],
-    columns: &Columns,
-    below: &[u8],
-) -> Done {
-    draw_text(svg, (ASKED_LEFT, 76), Look::Bold, b"C, controller")?;
-    draw_text(svg, (columns.answered, 76), Look::Bold, b"D, deck")?;
+pub(crate) fn draw_rows(svg: &mut Markup, rows: &[ExchangeRow], columns: &Columns, below: &[u8]) {
+    draw_text(svg, (ASKED_LEFT, 76), Look::Bold, b"C, controller");
+    draw_text(svg, (columns.answered, 76), Look::Bold, b"D, deck");
     let mut y = ROWS_TOP;
     let mut last: Option<&ExchangeRow> = None;
     for row in rows {
         if let Some(last) = last {
-            draw_gap(svg, last, row, y.saturating_sub(ROW_GAP))?;
+            draw_gap(svg, last, row, y.saturating_sub(ROW_GAP));
         }
-        draw_row(svg, row, columns, y)?;
+        draw_row(svg, row, columns, y);
         y = y.saturating_add(ROW_TALL + ROW_GAP);
         last = Some(row);
     }
-    draw_text(svg, (MARGIN, columns.tall), Look::Name, below)?;
+    draw_text(svg, (MARGIN, columns.tall), Look::Name, below);
     let note =
         b"a box is a byte; between two rows is the time from the last byte above to the first below";
     let note_y = columns.tall.saturating_add(28);
-    draw_text(svg, (MARGIN, note_y), Look::Note, note)
+    draw_text(svg, (MARGIN, note_y), Look::Note, note);
 }
 
 /// Draws a row.
-fn draw_row(svg: &mut Markup, row: &ExchangeRow, columns: &Columns, y: u64) -> Done {
+fn draw_row(svg: &mut Markup, row: &ExchangeRow, columns: &Columns, y: u64) {
     let (names_y, time_y) = (y.saturating_add(12), y.saturating_add(34));
     let (numbers_y, says_y) = (y.saturating_add(48), y.saturating_add(58));
-    let time = milliseconds(svg.alloc(), row.time_us())?;
-    draw_text(svg, (MARGIN, time_y), Look::Bold, time.as_slice())?;
-    let mut numbers = Vec::new(svg.alloc());
-    put_count(&mut numbers, "records ", u64::from(row.first))?;
-    put_count(&mut numbers, " to ", u64::from(row.last))?;
-    draw_text(svg, (MARGIN, numbers_y), Look::Small, numbers.as_slice())?;
+    begin_text(svg, (MARGIN, time_y), Look::Bold);
+    svg.put_with(|text| put_milliseconds(text, row.time_us()));
+    end_text(svg);
+    begin_text(svg, (MARGIN, numbers_y), Look::Small);
+    svg.put_whole("records ", u64::from(row.first));
+    svg.put_whole(" to ", u64::from(row.last));
+    end_text(svg);
     let (asked, answered) = (row.asked.as_slice(), row.answered.as_slice());
-    draw_text(svg, (ASKED_LEFT, names_y), Look::Name, asked)?;
-    draw_text(svg, (columns.answered, names_y), Look::Name, answered)?;
+    draw_text(svg, (ASKED_LEFT, names_y), Look::Name, asked);
+    draw_text(svg, (columns.answered, names_y), Look::Name, answered);
     if !row.says.is_empty() {
         let says = row.says.as_slice();
-        draw_text(svg, (columns.answered, says_y), Look::Says, says)?;
+        draw_text(svg, (columns.answered, says_y), Look::Says, says);
     }
-    draw_boxes(svg, row, columns, y.saturating_add(18))
+    draw_boxes(svg, row, columns, y.saturating_add(18));
 }
 
 /// Draws the boxes of a row, with an arrow at the record that breaks.
-fn draw_boxes(svg: &mut Markup, row: &ExchangeRow, columns: &Columns, y: u64) -> Done {
+fn draw_boxes(svg: &mut Markup, row: &ExchangeRow, columns: &Columns, y: u64) {
     let mut number = row.first;
     for (place, record) in row.records.as_slice().iter().enumerate() {
         let left = row.box_left(columns, place);
         if row.breaks && number == row.last {
-            draw_box(svg, (left, y), Standing::Breaking, number, *record)?;
+            draw_box(svg, (left, y), Standing::Breaking, number, *record);
             let tip = left.saturating_add(BOX_WIDE + 4 * PIXEL);
             let tip_y = y.saturating_add(BOX_TALL / 2);
-            draw_arrow(svg, (tip, tip_y), " l 12 -5 v 10 z")?;
+            draw_arrow(svg, (tip, tip_y), " l 12 -5 v 10 z");
         } else {
-            draw_box(svg, (left, y), Standing::Plain, number, *record)?;
+            draw_box(svg, (left, y), Standing::Plain, number, *record);
         }
         number = number.saturating_add(1);
     }
-    Ok(())
 }
 
 /// Draws the time between two rows, on a line that is cut.
-fn draw_gap(svg: &mut Markup, last: &ExchangeRow, next: &ExchangeRow, y: u64) -> Done {
+fn draw_gap(svg: &mut Markup, last: &ExchangeRow, next: &ExchangeRow, y: u64) {
     let about = ASKED_LEFT + BOX_WIDE / 2;
     let (above, below) = (y.saturating_add(2), y.saturating_add(ROW_GAP - 6));
-    draw_line(svg, (about, above), (about, below), Look::Dashes)?;
-    draw_slashes(svg, about, y.saturating_add(ROW_GAP / 2 - 2))?;
-    let mut text = Vec::new(svg.alloc());
-    put_gap(&mut text, last, next)?;
+    draw_line(svg, (about, above), (about, below), Look::Dashes);
+    draw_slashes(svg, about, y.saturating_add(ROW_GAP / 2 - 2));
     let at = (about + 16 * PIXEL, y.saturating_add(ROW_GAP / 2 + 2));
-    draw_text(svg, at, Look::Note, text.as_slice())
+    begin_text(svg, at, Look::Note);
+    svg.put_with(|text| put_gap(text, last, next));
+    end_text(svg);
 }
 
 /// Puts the time between two rows, and how many records.

@@ -1,57 +1,62 @@
-//! A text of marks, an SVG or a page, that is written piece by piece: marks of its own, and foreign text, which is escaped.
+//! A text of marks, an SVG or a page, that is written piece by piece: marks of its own, numbers, and foreign text, which is escaped.
 ghost use Rattle.std.specs.Prelude.{◌≡◌, ◌++◌, ℕ, List, OnOk};
 ghost use Rattle.picture9.specs.Markup.{escape_of, escaped, IsEscaped};
 
 use crate::look::Style;
 use crate::numbers::{put_px, put_thousands};
-use report9::{TextBuffer, put_count, put_text};
+use report9::{TextBuffer, put_count, put_hex, put_text};
 use std::alloc::{AllocError, Global};
 use std::marker::Model;
+use view9::put_fixed;
 
-/// What comes of a piece that is put: memory may be refused, and then a part of the piece may stand there.
+/// What comes of what takes memory: it may be refused.
 pub type Done = Result<(), AllocError>;
 
-/// A piece of an SVG or of a page.
+/// A piece of an SVG or of a page. It remembers whether memory was refused, so that nobody has to ask after each piece: `whole` tells it.
 #[derive(Drop)]
 pub struct Markup {
     alloc: Global,
     /// What gives the shapes of a picture their colours.
     style: Style,
     text: Vec<u8>,
+    /// Whether memory was refused, so that a part of the text is missing.
+    is_short: bool,
 }
 
 impl Model for Markup {
-    ghost use Rattle.std.specs.Prelude.{List, ℕ};
+    ghost use Rattle.std.specs.Prelude.{List, ℕ, Option, Some, None, if◌then◌else◌};
 
-    ghost Value = { List ℕ };
+    ghost Value = { Option (List ℕ) };
 
-    ghost view = { λ h. h.text.items };
+    ghost view = { λ h. if h.is_short then None else Some h.text.items };
 }
 
 impl Markup {
-    ghost use Rattle.std.specs.Prelude.{◌≡◌, ◌++◌, [], OnOk};
+    ghost use Rattle.std.specs.Prelude.{◌≡◌, ◌≤◌, ◌++◌, [], ℕ, List, IfOk, IfErr, Some, None};
     ghost use Rattle.std.specs.Fmt.{decimal};
-    ghost use Rattle.picture9.specs.Markup.{escaped};
+    ghost use Rattle.picture9.specs.Markup.{escaped, IsPut};
 
     /// Nothing yet.
     pub fn new(alloc: Global) -> Markup
-        ensures { result ≡ [] }
+        ensures { result ≡ Some [] }
     {
         Markup {
             alloc,
             style: Style::Own,
             text: Vec::new(alloc),
+            is_short: false,
         }
     }
 
     /// Nothing yet, of a picture that stands on a page.
     pub(crate) fn on_page(alloc: Global) -> Markup
-        ensures { result ≡ [] }
+        ensures { result ≡ Some [] }
     {
         Markup {
             alloc,
             style: Style::Page,
             text: Vec::new(alloc),
+            is_short: false,
         }
     }
 
@@ -61,45 +66,75 @@ impl Markup {
     }
 
     /// Puts marks of one's own, as they are.
-    pub fn put_mark(&mut self, marks: &'static str) -> Done
-        ensures { OnOk result (self.new ≡ self.old ++ marks.now) }
+    pub fn put_mark(&mut self, marks: &'static str)
+        ensures { IsPut self.old self.new (Some marks.now) }
     {
-        put_text(&mut self.text, marks)
+        self.is_short |= put_text(&mut self.text, marks).is_err();
     }
 
     /// Puts foreign text: `&`, `<`, `>` and `"` are written by their names, since they would be read as marks.
-    pub fn put_foreign(&mut self, text: &[u8]) -> Done
-        ensures { OnOk result (self.new ≡ self.old ++ escaped text.now) }
+    pub fn put_foreign(&mut self, text: &[u8])
+        ensures { IsPut self.old self.new (Some (escaped text.now)) }
     {
-        for byte in text {
-            put_escaped(&mut self.text, *byte)?;
+        self.is_short |= put_escaped(&mut self.text, text).is_err();
+    }
+
+    /// Puts foreign text that was made beside it. Where memory was refused there, a part is missing here.
+    pub fn put_made(&mut self, text: Result<Vec<u8>, AllocError>)
+        ensures made { IfOk text (λ made. IsPut self.old self.new (Some (escaped made.items))) }
+        ensures refused { IfErr text (λ refused. self.new ≡ None) }
+    {
+        match text {
+            Ok(text) => self.put_foreign(text.as_slice()),
+            Err(_) => self.is_short = true,
         }
-        Ok(())
+    }
+
+    /// Puts foreign text as it is written by somebody.
+    pub fn put_with<F: FnOnce(&mut Vec<u8>) -> Done>(&mut self, put: F)
+        requires { F.IsAlwaysCallable put }
+        ensures { (text : List ℕ) × IsPut self.old self.new (Some (escaped text)) }
+    {
+        let mut text = Vec::new(self.alloc);
+        self.is_short |= put(&mut text).is_err();
+        self.put_foreign(text.as_slice());
     }
 
     /// Puts marks, and then a place in pixels.
-    pub(crate) fn put_place(&mut self, marks: &'static str, place: u64) -> Done {
-        put_text(&mut self.text, marks)?;
-        put_px(&mut self.text, place)
+    pub(crate) fn put_place(&mut self, marks: &'static str, place: u64) {
+        self.put_mark(marks);
+        self.is_short |= put_px(&mut self.text, place).is_err();
     }
 
     /// Puts marks of one's own, and then a whole number in decimal digits.
-    pub fn put_whole(&mut self, marks: &'static str, number: u64) -> Done
-        ensures { OnOk result (self.new ≡ self.old ++ (marks.now ++ decimal number)) }
+    pub fn put_whole(&mut self, marks: &'static str, number: u64)
+        ensures { IsPut self.old self.new (Some (marks.now ++ decimal number)) }
     {
-        put_count(&mut self.text, marks, number)
+        self.is_short |= put_count(&mut self.text, marks, number).is_err();
     }
 
-    /// Puts a whole number with commas between its thousands.
-    pub(crate) fn put_thousands(&mut self, number: u64) -> Done {
-        put_thousands(&mut self.text, number)
+    /// Puts a whole number with a comma before each three of its last digits.
+    pub fn put_thousands(&mut self, number: u64) {
+        self.is_short |= put_thousands(&mut self.text, number).is_err();
     }
 
-    /// Puts what another piece has.
-    pub fn put_piece(&mut self, piece: &Markup) -> Done
-        ensures { OnOk result (self.new ≡ self.old ++ piece.now) }
+    /// Puts a number with a point before so many of its last digits.
+    pub fn put_fixed(&mut self, number: u64, places: u32)
+        requires { places ≤ 19 }
     {
-        self.text.put(piece.text.as_slice())
+        self.is_short |= put_fixed(&mut self.text, number, places).is_err();
+    }
+
+    /// Puts a byte in two hexadecimal digits.
+    pub fn put_byte(&mut self, byte: u8) {
+        self.is_short |= put_hex(&mut self.text, u32::from(byte)).is_err();
+    }
+
+    /// Puts what another piece has. Where a part of that is missing, one is missing here.
+    pub fn put_piece(&mut self, piece: &Markup)
+        ensures { IsPut self.old self.new piece.now }
+    {
+        self.is_short |= piece.is_short || self.text.put(piece.text.as_slice()).is_err();
     }
 
     /// What text beside it is made with.
@@ -107,16 +142,40 @@ impl Markup {
         self.alloc
     }
 
-    /// The bytes.
-    pub fn as_slice(&self) -> &[u8]
-        ensures { result.now ≡ self.now }
+    /// How many bytes it takes.
+    pub fn len(&self) -> usize {
+        self.text.len()
+    }
+
+    /// Whether nothing was put.
+    pub fn is_empty(&self) -> bool {
+        self.text.is_empty()
+    }
+
+    /// The bytes; an error where memory was refused for one of them.
+    pub fn whole(&self) -> Result<&[u8], AllocError>
+        ensures whole { IfOk result (λ text. self.now ≡ Some text.now) }
+        ensures short { IfErr result (λ refused. self.now ≡ None) }
     {
-        self.text.as_slice()
+        if self.is_short {
+            return Err(AllocError);
+        }
+        Ok(self.text.as_slice())
     }
 }
 
+/// Puts foreign text, escaped.
+fn put_escaped(text: &mut Vec<u8>, foreign: &[u8]) -> Done
+    ensures { OnOk result (text.new.items ≡ text.old.items ++ escaped foreign.now) }
+{
+    for byte in foreign {
+        put_escape(text, *byte)?;
+    }
+    Ok(())
+}
+
 /// Puts a byte of foreign text.
-fn put_escaped(text: &mut Vec<u8>, byte: u8) -> Done
+fn put_escape(text: &mut Vec<u8>, byte: u8) -> Done
     ensures { OnOk result (text.new.items ≡ text.old.items ++ escape_of byte) }
 {
     match byte {

@@ -75,7 +75,7 @@ pub fn write_picture<R: Read + Drop, W: Write>(
     let Some(svg) = draw(alloc, second, scope, profile, wanted.width, &choice)? else {
         return Ok(Drawn::Nothing(why_nothing(&choice, scope.extent, wanted.at)));
     };
-    write_all(writer, svg.as_slice())?;
+    write_all(writer, svg.whole()?)?;
     Ok(Drawn::Picture(ending))
 }
 
@@ -140,7 +140,7 @@ fn draw_break<R: Read + Drop>(
     let verdict = (asked.at, *reason);
     put_head(&mut svg, (layout.wide, TALL), verdict, below.as_slice())?;
     draw_around(&mut svg, &layout)?;
-    svg.put_mark("</svg>\n")?;
+    svg.put_mark("</svg>\n");
     Ok(Some(svg))
 }
 
@@ -170,8 +170,8 @@ fn draw_contradiction<R: Read + Drop>(
     let verdict = (*at, Reason::NoRun);
     let sentence = b"No deck can have given all of these replies.";
     put_head(&mut svg, size, verdict, sentence)?;
-    draw_rows(&mut svg, rows.as_slice(), &columns, below.as_slice())?;
-    svg.put_mark("</svg>\n")?;
+    draw_rows(&mut svg, rows.as_slice(), &columns, below.as_slice());
+    svg.put_mark("</svg>\n");
     Ok(Some(svg))
 }
 
@@ -185,15 +185,16 @@ fn put_head(
     let mut line = Vec::new(svg.alloc());
     put_no_line(&mut line, at, reason)?;
     let verdict = line.as_slice().strip_suffix(b"\n").unwrap_or(&[]);
-    svg.put_place("<svg xmlns=\"http://www.w3.org/2000/svg\" width=\"", wide)?;
-    svg.put_whole("\" height=\"", tall)?;
-    svg.put_place("\" viewBox=\"0 0 ", wide)?;
-    svg.put_whole(" ", tall)?;
-    svg.put_mark("\" style=\"max-width:100%;height:auto\"")?;
-    svg.put_mark(" font-family=\"DejaVu Sans Mono, Menlo, Consolas, monospace\"")?;
-    svg.put_mark(" font-size=\"12\">\n<title>")?;
-    svg.put_foreign(verdict)?;
-    svg.put_mark("</title>\n<rect width=\"100%\" height=\"100%\" fill=\"#ffffff\"/>\n")?;
-    draw_text(svg, (MARGIN, 28), Look::Headline, verdict)?;
-    draw_text(svg, (MARGIN, 48), Look::Time, below)
+    svg.put_place("<svg xmlns=\"http://www.w3.org/2000/svg\" width=\"", wide);
+    svg.put_whole("\" height=\"", tall);
+    svg.put_place("\" viewBox=\"0 0 ", wide);
+    svg.put_whole(" ", tall);
+    svg.put_mark("\" style=\"max-width:100%;height:auto\"");
+    svg.put_mark(" font-family=\"DejaVu Sans Mono, Menlo, Consolas, monospace\"");
+    svg.put_mark(" font-size=\"12\">\n<title>");
+    svg.put_foreign(verdict);
+    svg.put_mark("</title>\n<rect width=\"100%\" height=\"100%\" fill=\"#ffffff\"/>\n");
+    draw_text(svg, (MARGIN, 28), Look::Headline, verdict);
+    draw_text(svg, (MARGIN, 48), Look::Time, below);
+    Ok(())
 }

@@ -2,11 +2,10 @@
 //! those from above in pixels.
 
 use crate::look::Look;
-use crate::markup::{Done, Markup};
-use crate::numbers::{MICROSECOND, PIXEL, milliseconds};
+use crate::markup::Markup;
+use crate::numbers::{MICROSECOND, PIXEL, put_milliseconds};
 use block9::BYTE_TIME_US;
 use capture9::LineByte;
-use report9::put_hex;
 
 /// How wide the box of a byte is.
 pub(crate) const BOX_WIDE: u64 = BYTE_TIME_US * MICROSECOND;
@@ -32,52 +31,52 @@ pub(crate) enum Standing {
 }
 
 /// Draws a line.
-pub(crate) fn draw_line(svg: &mut Markup, from: Point, to: Point, look: Look) -> Done {
-    svg.put_place("<line x1=\"", from.0)?;
-    svg.put_whole("\" y1=\"", from.1)?;
-    svg.put_place("\" x2=\"", to.0)?;
-    svg.put_whole("\" y2=\"", to.1)?;
-    end_shape(svg, look)
+pub(crate) fn draw_line(svg: &mut Markup, from: Point, to: Point, look: Look) {
+    svg.put_place("<line x1=\"", from.0);
+    svg.put_whole("\" y1=\"", from.1);
+    svg.put_place("\" x2=\"", to.0);
+    svg.put_whole("\" y2=\"", to.1);
+    end_shape(svg, look);
 }
 
 /// Ends the last attribute of a shape, and the shape.
-fn end_shape(svg: &mut Markup, look: Look) -> Done {
-    svg.put_mark("\"")?;
-    svg.put_mark(look.attributes(svg.style()))?;
-    svg.put_mark("/>\n")
+fn end_shape(svg: &mut Markup, look: Look) {
+    svg.put_mark("\"");
+    svg.put_mark(look.attributes(svg.style()));
+    svg.put_mark("/>\n");
 }
 
 /// Begins a text, whose words come next: the first of them stands here.
-pub(crate) fn begin_text(svg: &mut Markup, at: Point, look: Look) -> Done {
-    begin_words(svg, at, "\" text-anchor=\"start\"", look)
+pub(crate) fn begin_text(svg: &mut Markup, at: Point, look: Look) {
+    begin_words(svg, at, "\" text-anchor=\"start\"", look);
 }
 
 /// Begins a text at this anchor.
-fn begin_words(svg: &mut Markup, at: Point, anchor: &'static str, look: Look) -> Done {
-    svg.put_place("<text x=\"", at.0)?;
-    svg.put_whole("\" y=\"", at.1)?;
-    svg.put_mark(anchor)?;
-    svg.put_mark(look.attributes(svg.style()))?;
-    svg.put_mark(">")
+fn begin_words(svg: &mut Markup, at: Point, anchor: &'static str, look: Look) {
+    svg.put_place("<text x=\"", at.0);
+    svg.put_whole("\" y=\"", at.1);
+    svg.put_mark(anchor);
+    svg.put_mark(look.attributes(svg.style()));
+    svg.put_mark(">");
 }
 
 /// Ends a text.
-pub(crate) fn end_text(svg: &mut Markup) -> Done {
-    svg.put_mark("</text>\n")
+pub(crate) fn end_text(svg: &mut Markup) {
+    svg.put_mark("</text>\n");
 }
 
 /// Draws a text that begins here.
-pub(crate) fn draw_text(svg: &mut Markup, at: Point, look: Look, words: &[u8]) -> Done {
-    begin_text(svg, at, look)?;
-    svg.put_foreign(words)?;
-    end_text(svg)
+pub(crate) fn draw_text(svg: &mut Markup, at: Point, look: Look, words: &[u8]) {
+    begin_text(svg, at, look);
+    svg.put_foreign(words);
+    end_text(svg);
 }
 
 /// Draws a text whose middle is here.
-pub(crate) fn draw_middle(svg: &mut Markup, at: Point, look: Look, words: &[u8]) -> Done {
-    begin_words(svg, at, "\" text-anchor=\"middle\"", look)?;
-    svg.put_foreign(words)?;
-    end_text(svg)
+pub(crate) fn draw_middle(svg: &mut Markup, at: Point, look: Look, words: &[u8]) {
+    begin_words(svg, at, "\" text-anchor=\"middle\"", look);
+    svg.put_foreign(words);
+    end_text(svg);
 }
 
 /// Draws the box of a byte, with its digits, and its record and stamp as its title.
@@ -87,35 +86,34 @@ pub(crate) fn draw_box(
     standing: Standing,
     number: u32,
     record: LineByte,
-) -> Done {
+) {
     let (look, digits_look) = match standing {
         Standing::Plain => (Look::PlainBox, Look::PlainDigits),
         Standing::Breaking => (Look::BreakingBox, Look::BreakingDigits),
         Standing::Pale => (Look::PaleBox, Look::Pale),
     };
-    svg.put_place("<rect x=\"", at.0)?;
-    svg.put_whole("\" y=\"", at.1)?;
-    svg.put_place("\" width=\"", BOX_WIDE)?;
-    svg.put_whole("\" height=\"", BOX_TALL)?;
-    svg.put_mark("\"")?;
-    svg.put_mark(look.attributes(svg.style()))?;
-    svg.put_whole("><title>record ", u64::from(number))?;
-    svg.put_mark(", ")?;
-    svg.put_foreign(milliseconds(svg.alloc(), record.time_us)?.as_slice())?;
-    svg.put_mark("</title></rect>\n")?;
-    let mut digits = Vec::new(svg.alloc());
-    put_hex(&mut digits, u32::from(record.byte))?;
-    let middle = at.0.saturating_add(BOX_WIDE / 2);
-    let y = at.1.saturating_add(16);
-    draw_middle(svg, (middle, y), digits_look, digits.as_slice())
+    svg.put_place("<rect x=\"", at.0);
+    svg.put_whole("\" y=\"", at.1);
+    svg.put_place("\" width=\"", BOX_WIDE);
+    svg.put_whole("\" height=\"", BOX_TALL);
+    svg.put_mark("\"");
+    svg.put_mark(look.attributes(svg.style()));
+    svg.put_whole("><title>record ", u64::from(number));
+    svg.put_mark(", ");
+    svg.put_with(|text| put_milliseconds(text, record.time_us));
+    svg.put_mark("</title></rect>\n");
+    let middle = (at.0.saturating_add(BOX_WIDE / 2), at.1.saturating_add(16));
+    begin_words(svg, middle, "\" text-anchor=\"middle\"", digits_look);
+    svg.put_byte(record.byte);
+    end_text(svg);
 }
 
 /// Draws an arrow with its tip here, and then as the path says.
-pub(crate) fn draw_arrow(svg: &mut Markup, tip: Point, path: &'static str) -> Done {
-    svg.put_place("<path d=\"M ", tip.0)?;
-    svg.put_whole(" ", tip.1)?;
-    svg.put_mark(path)?;
-    end_shape(svg, Look::Arrow)
+pub(crate) fn draw_arrow(svg: &mut Markup, tip: Point, path: &'static str) {
+    svg.put_place("<path d=\"M ", tip.0);
+    svg.put_whole(" ", tip.1);
+    svg.put_mark(path);
+    end_shape(svg, Look::Arrow);
 }
 
 /// Draws a bracket from here to there, whose ends are moved down by the first and back by the second.
@@ -124,34 +122,34 @@ pub(crate) fn draw_bracket(
     from: Point,
     to: u64,
     (down, back): (&'static str, &'static str),
-) -> Done {
-    svg.put_place("<path d=\"M ", from.0)?;
-    svg.put_whole(" ", from.1)?;
-    svg.put_mark(down)?;
-    svg.put_place(" H ", to)?;
-    svg.put_mark(back)?;
-    end_shape(svg, Look::Bracket)
+) {
+    svg.put_place("<path d=\"M ", from.0);
+    svg.put_whole(" ", from.1);
+    svg.put_mark(down);
+    svg.put_place(" H ", to);
+    svg.put_mark(back);
+    end_shape(svg, Look::Bracket);
 }
 
 /// Draws how long something lasts: a line with a stroke at each end.
-pub(crate) fn draw_span(svg: &mut Markup, from: u64, to: u64, y: u64, look: Look) -> Done {
+pub(crate) fn draw_span(svg: &mut Markup, from: u64, to: u64, y: u64, look: Look) {
     let (above, below) = (y.saturating_sub(5), y.saturating_add(5));
-    draw_line(svg, (from, y), (to, y), look)?;
-    draw_line(svg, (from, above), (from, below), look)?;
-    draw_line(svg, (to, above), (to, below), look)
+    draw_line(svg, (from, y), (to, y), look);
+    draw_line(svg, (from, above), (from, below), look);
+    draw_line(svg, (to, above), (to, below), look);
 }
 
 /// Draws two strokes where a line is cut.
-pub(crate) fn draw_slashes(svg: &mut Markup, about: u64, y: u64) -> Done {
-    svg.put_place("<rect x=\"", about.saturating_sub(5 * PIXEL))?;
-    svg.put_whole("\" y=\"", y.saturating_sub(7))?;
-    svg.put_mark("\" width=\"10\" height=\"14")?;
-    end_shape(svg, Look::Gap)?;
+pub(crate) fn draw_slashes(svg: &mut Markup, about: u64, y: u64) {
+    svg.put_place("<rect x=\"", about.saturating_sub(5 * PIXEL));
+    svg.put_whole("\" y=\"", y.saturating_sub(7));
+    svg.put_mark("\" width=\"10\" height=\"14");
+    end_shape(svg, Look::Gap);
     let (above, below) = (y.saturating_sub(6), y.saturating_add(6));
     let left = about.saturating_sub(6 * PIXEL);
     let before = about.saturating_sub(PIXEL);
-    draw_line(svg, (left, below), (before, above), Look::Line)?;
+    draw_line(svg, (left, below), (before, above), Look::Line);
     let behind = about.saturating_add(PIXEL);
     let right = about.saturating_add(6 * PIXEL);
-    draw_line(svg, (behind, below), (right, above), Look::Line)
+    draw_line(svg, (behind, below), (right, above), Look::Line);
 }

@@ -32,8 +32,6 @@ mod quoted;
 mod refusal;
 mod replies;
 mod sheet;
-#[cfg(test)]
-mod tests;
 mod text;
 
 pub use refusal::{EntryFault, ItemFault, Refusal, SheetError, TableName};

@@ -86,15 +86,15 @@ fn exchange_line<'e>(
 ) -> Result<Line<'e>, AllocError> {
     let exchange = seen.exchange;
     let mut line = Line::new(alloc, "exchange")?;
-    line.put("record", Told::Count(u64::from(seen.last)))?;
-    line.put_called(profile, exchange)?;
-    line.put("delay_us", Told::Count(exchange.delay_us))?;
-    line.put_fields(profile, &seen.after, Field::told(profile.hands))?;
+    line.put("record", Told::Count(u64::from(seen.last)));
+    line.put_called(profile, exchange);
+    line.put("delay_us", Told::Count(exchange.delay_us));
+    line.put_fields(profile, &seen.after, Field::told(profile.hands));
     if detail == Detail::Bytes {
-        line.put("first_record", Told::Count(u64::from(seen.first)))?;
-        line.put("time_us", Told::Count(exchange.time_us))?;
-        line.put_blocks(profile.rate, exchange)?;
-        line.put_says(exchange)?;
+        line.put("first_record", Told::Count(u64::from(seen.first)));
+        line.put("time_us", Told::Count(exchange.time_us));
+        line.put_blocks(profile.rate, exchange);
+        line.put_says(exchange);
     }
     Ok(line)
 }

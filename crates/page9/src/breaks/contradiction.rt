@@ -3,7 +3,7 @@
 
 use crate::breaks::disputed::Disputed;
 use crate::breaks::sentences::put_called;
-use crate::html::{put_byte, put_clock, put_lasting, put_thousands};
+use crate::html::{put_clock, put_lasting};
 use block9::{Block, Exchange};
 use deck9::{Knowledge, ModeSet, Profile};
 use picture9::{Done, Markup, answered_of, asked_of, put_known_before, says_of};
@@ -53,7 +53,7 @@ pub(super) fn put_list(
         return Ok(());
     };
     let disputed = Disputed::of(why);
-    put_head(html, places.len(), disputed)?;
+    put_head(html, places.len(), disputed);
     let exchanges = exchanges.as_slice();
     let first = first_before(*at, exchanges);
     let mut list = List {
@@ -68,7 +68,8 @@ pub(super) fn put_list(
         named: Markup::new(html.alloc()),
     };
     list.put_all(html, times, exchanges)?;
-    put_known(html, profile, known, *shown)
+    put_known(html, profile, known, *shown);
+    Ok(())
 }
 
 /// The number of the record before the first exchange, of which the last ends with the record of the number `at`.
@@ -81,15 +82,15 @@ fn first_before(at: u32, exchanges: &[Exchange]) -> u32 {
 }
 
 /// Puts what so many replies contradict, and the head of their list.
-fn put_head(html: &mut Markup, replies: usize, disputed: Disputed) -> Done {
-    html.put_mark("<p>")?;
-    html.put_mark(what_contradicts(replies))?;
+fn put_head(html: &mut Markup, replies: usize, disputed: Disputed) {
+    html.put_mark("<p>");
+    html.put_mark(what_contradicts(replies));
     if !disputed.is_none() {
-        html.put_mark(" What they disagree on is ")?;
-        disputed.put(html)?;
-        html.put_mark(", and its bytes are marked.")?;
+        html.put_mark(" What they disagree on is ");
+        disputed.put(html);
+        html.put_mark(", and its bytes are marked.");
     }
-    html.put_mark("</p>\n<ol class=\"replies\">\n")
+    html.put_mark("</p>\n<ol class=\"replies\">\n");
 }
 
 /// What so many replies contradict.
@@ -106,12 +107,10 @@ fn what_contradicts(replies: usize) -> &'static str {
 }
 
 /// Puts the end of the list, and what was known of the deck before the last reply.
-fn put_known(html: &mut Markup, profile: &Profile, known: &Knowledge, shown: ModeSet) -> Done {
-    let mut text = Vec::new(html.alloc());
-    put_known_before(&mut text, profile, known, shown)?;
-    html.put_mark("</ol>\n<p>Known before the last reply: ")?;
-    html.put_foreign(text.as_slice())?;
-    html.put_mark(".</p>\n")
+fn put_known(html: &mut Markup, profile: &Profile, known: &Knowledge, shown: ModeSet) {
+    html.put_mark("</ol>\n<p>Known before the last reply: ");
+    html.put_with(|text| put_known_before(text, profile, known, shown));
+    html.put_mark(".</p>\n");
 }
 
 impl List<'_> {
@@ -123,23 +122,24 @@ impl List<'_> {
             if self.places.get(self.taken).copied() == Some(place) {
                 self.put_reply(html, times, exchange, first)?;
             } else if self.disputed.is_touched_by(self.profile, exchange) {
-                self.name(exchange)?;
+                self.name(exchange);
             }
         }
-        html.put_mark(if self.taken > 0 { "</li>\n" } else { "" })
+        html.put_mark(if self.taken > 0 { "</li>\n" } else { "" });
+        Ok(())
     }
 
     /// Names a command that touches what is disputed.
-    fn name(&mut self, exchange: &Exchange) -> Done {
+    fn name(&mut self, exchange: &Exchange) {
         self.touching = self.touching.saturating_add(1);
         if self.touching > MOST_NAMED {
-            return Ok(());
+            return;
         }
         self.named
-            .put_mark(if self.touching > 1 { ", " } else { "" })?;
-        put_called(&mut self.named, Called::of(self.profile, exchange))?;
-        self.named.put_mark(" at ")?;
-        put_clock(&mut self.named, exchange.time_us)
+            .put_mark(if self.touching > 1 { ", " } else { "" });
+        put_called(&mut self.named, Called::of(self.profile, exchange));
+        self.named.put_mark(" at ");
+        put_clock(&mut self.named, exchange.time_us);
     }
 
     /// Puts a reply whose exchange begins with this record, where it is listed, behind what stands between it and the one before.
@@ -153,12 +153,12 @@ impl List<'_> {
         self.taken = self.taken.saturating_add(1);
         if self.taken <= self.most || self.taken == self.places.len() {
             if self.taken > 1 {
-                self.put_between(html, exchange, first)?;
-                html.put_mark("</li>\n")?;
+                self.put_between(html, exchange, first);
+                html.put_mark("</li>\n");
             }
             times.push(exchange.time_us)?;
-            html.put_mark("<li>")?;
-            self.put_item(html, exchange, first)?;
+            html.put_mark("<li>");
+            self.put_item(html, exchange, first);
         }
         self.before = (exchange.time_us, self.at);
         self.touching = 0;
@@ -167,100 +167,104 @@ impl List<'_> {
     }
 
     /// Puts what stands between a reply and the one before it.
-    fn put_between(&self, html: &mut Markup, exchange: &Exchange, first: u32) -> Done {
-        html.put_mark("<p class=\"between\">")?;
+    fn put_between(&self, html: &mut Markup, exchange: &Exchange, first: u32) {
+        html.put_mark("<p class=\"between\">");
         let more = self.taken.saturating_sub(self.most).saturating_sub(1);
         if more > 0 {
-            put_thousands(html, more as u64)?;
-            return html.put_mark(" more replies are not listed</p>");
+            html.put_thousands(more as u64);
+            html.put_mark(" more replies are not listed</p>");
+            return;
         }
         let (before_us, before_ends) = self.before;
-        put_lasting(html, exchange.time_us.saturating_sub(before_us))?;
-        html.put_mark(" later, ")?;
+        put_lasting(html, exchange.time_us.saturating_sub(before_us));
+        html.put_mark(" later, ");
         let records = first.saturating_sub(before_ends).saturating_sub(1);
-        put_records_between(html, records)?;
+        put_records_between(html, records);
         if records > 0 {
-            self.put_touching(html)?;
+            self.put_touching(html);
         }
-        html.put_mark("</p>")
+        html.put_mark("</p>");
     }
 
     /// Puts which commands between two replies touch what is disputed.
-    fn put_touching(&self, html: &mut Markup) -> Done {
+    fn put_touching(&self, html: &mut Markup) {
         if self.touching == 0 {
             let is_kept = self.disputed.is_kept();
-            return html.put_mark(if is_kept {
+            html.put_mark(if is_kept {
                 "; no command between touches it"
             } else {
                 ""
             });
+            return;
         }
-        html.put_mark("; what touches it between: ")?;
-        html.put_piece(&self.named)?;
+        html.put_mark("; what touches it between: ");
+        html.put_piece(&self.named);
         let more = self.touching.saturating_sub(MOST_NAMED);
         if more > 0 {
-            html.put_mark(" and ")?;
-            put_thousands(html, more)?;
-            html.put_mark(" more")?;
+            html.put_mark(" and ");
+            html.put_thousands(more);
+            html.put_mark(" more");
         }
-        Ok(())
     }
 
     /// Puts a reply: its time, its records, what was asked and answered, what it says, and the bytes.
-    fn put_item(&self, html: &mut Markup, exchange: &Exchange, first: u32) -> Done {
+    fn put_item(&self, html: &mut Markup, exchange: &Exchange, first: u32) {
         let alloc = html.alloc();
-        html.put_mark("<span>")?;
-        put_clock(html, exchange.time_us)?;
-        html.put_mark("</span> <span class=\"soft\">records ")?;
-        put_thousands(html, u64::from(first))?;
-        html.put_mark(" to ")?;
-        put_thousands(html, u64::from(self.at))?;
-        html.put_mark("</span> <span><b>")?;
-        html.put_foreign(asked_of(alloc, self.profile, exchange)?.as_slice())?;
-        html.put_mark(" &#8594; ")?;
-        html.put_foreign(answered_of(alloc, self.profile, exchange)?.as_slice())?;
-        html.put_mark("</b>")?;
-        let says = says_of(alloc, self.profile, exchange)?;
-        html.put_mark(if says.is_empty() { "" } else { " " })?;
-        html.put_foreign(says.as_slice())?;
-        html.put_mark("<br><span class=\"bytes\">")?;
-        let mut asked = Vec::new(alloc);
-        put_block(&mut asked, &exchange.block)?;
-        html.put_foreign(asked.as_slice())?;
-        html.put_mark(" &#8594; ")?;
-        self.put_reply_bytes(html, exchange, &exchange.reply)?;
-        html.put_mark("</span></span>")
+        html.put_mark("<span>");
+        put_clock(html, exchange.time_us);
+        html.put_mark("</span> <span class=\"soft\">records ");
+        html.put_thousands(u64::from(first));
+        html.put_mark(" to ");
+        html.put_thousands(u64::from(self.at));
+        html.put_mark("</span> <span><b>");
+        html.put_made(asked_of(alloc, self.profile, exchange));
+        html.put_mark(" &#8594; ");
+        html.put_made(answered_of(alloc, self.profile, exchange));
+        html.put_mark("</b>");
+        match says_of(alloc, self.profile, exchange) {
+            Ok(says) if says.is_empty() => {}
+            says => {
+                html.put_mark(" ");
+                html.put_made(says);
+            }
+        }
+        html.put_mark("<br><span class=\"bytes\">");
+        html.put_with(|text| put_block(text, &exchange.block));
+        html.put_mark(" &#8594; ");
+        self.put_reply_bytes(html, exchange, &exchange.reply);
+        html.put_mark("</span></span>");
     }
 
     /// Puts the bytes of an exchange's reply, with marks about those in which stands what is disputed.
-    fn put_reply_bytes(&self, html: &mut Markup, exchange: &Exchange, reply: &Block) -> Done {
-        put_byte(html, (reply.first_byte() % 256) as u8)?;
-        html.put_mark(" ")?;
-        put_byte(html, reply.code)?;
+    fn put_reply_bytes(&self, html: &mut Markup, exchange: &Exchange, reply: &Block) {
+        html.put_byte((reply.first_byte() % 256) as u8);
+        html.put_mark(" ");
+        html.put_byte(reply.code);
         for (place, byte) in reply.bytes.as_slice().iter().enumerate() {
             let is_disputed = self.disputed.stands_in(exchange, place);
             html.put_mark(if is_disputed {
                 " <b class=\"bad\">"
             } else {
                 " "
-            })?;
-            put_byte(html, *byte)?;
-            html.put_mark(if is_disputed { "</b>" } else { "" })?;
+            });
+            html.put_byte(*byte);
+            html.put_mark(if is_disputed { "</b>" } else { "" });
         }
-        html.put_mark(" ")?;
-        put_byte(html, reply.checksum())
+        html.put_mark(" ");
+        html.put_byte(reply.checksum());
     }
 }
 
 /// Puts how many records stand between two exchanges.
-fn put_records_between(html: &mut Markup, records: u32) -> Done {
+fn put_records_between(html: &mut Markup, records: u32) {
     if records == 0 {
-        return html.put_mark("nothing between");
+        html.put_mark("nothing between");
+        return;
     }
-    put_thousands(html, u64::from(records))?;
+    html.put_thousands(u64::from(records));
     html.put_mark(if records == 1 {
         " record between"
     } else {
         " records between"
-    })
+    });
 }

@@ -5,7 +5,7 @@ use deck9::{
     Deck, Effect, Forgotten, Knowledge, Known, KnownEntry, ModeSet, Profile, Register,
     RegistersSet, Sense,
 };
-use picture9::{Done, Markup};
+use picture9::Markup;
 use report9::{WhyNo, status_in};
 
 /// Fields of a deck.
@@ -147,14 +147,13 @@ impl Disputed {
     }
 
     /// Puts its fields, where it has some.
-    pub(super) fn put(self, html: &mut Markup) -> Done {
-        let before = put_field(html, "", self.local, "LOCAL")?;
-        let before = put_field(html, before, self.shown, "the mode that is shown")?;
-        let before = put_field(html, before, self.registers.ins, "IN")?;
-        let before = put_field(html, before, self.registers.outs, "OUT")?;
-        let before = put_field(html, before, self.registers.ains, "audio IN")?;
-        put_field(html, before, self.registers.aouts, "audio OUT")?;
-        Ok(())
+    pub(super) fn put(self, html: &mut Markup) {
+        let before = put_field(html, "", self.local, "LOCAL");
+        let before = put_field(html, before, self.shown, "the mode that is shown");
+        let before = put_field(html, before, self.registers.ins, "IN");
+        let before = put_field(html, before, self.registers.outs, "OUT");
+        let before = put_field(html, before, self.registers.ains, "audio IN");
+        put_field(html, before, self.registers.aouts, "audio OUT");
     }
 }
 
@@ -199,13 +198,13 @@ fn put_field(
     before: &'static str,
     is_one: bool,
     name: &'static str,
-) -> Result<&'static str, std::alloc::AllocError> {
+) -> &'static str {
     if !is_one {
-        return Ok(before);
+        return before;
     }
-    html.put_mark(before)?;
-    html.put_mark("<b class=\"bad\">")?;
-    html.put_mark(name)?;
-    html.put_mark("</b>")?;
-    Ok(", ")
+    html.put_mark(before);
+    html.put_mark("<b class=\"bad\">");
+    html.put_mark(name);
+    html.put_mark("</b>");
+    ", "
 }

@@ -1,7 +1,7 @@
 //! An entry of the list of breaks.
 
-use crate::html::{BreakId, put_clock, put_reason, put_run, put_thousands};
-use picture9::{Done, Markup};
+use crate::html::{BreakId, put_clock, put_reason, put_run};
+use picture9::Markup;
 use std::alloc::Global;
 use view9::{BreakRun, SeenBreak};
 
@@ -31,79 +31,79 @@ impl Listed {
     }
 
     /// Puts the entry, with its picture where it has one. Of the first of all its parts are open.
-    pub(super) fn put(&self, html: &mut Markup, picture: Option<&Markup>, is_first: bool) -> Done {
+    pub(super) fn put(&self, html: &mut Markup, picture: Option<&Markup>, is_first: bool) {
         let open = if is_first { " open" } else { "" };
-        html.put_mark("<details class=\"break\" id=\"")?;
-        self.id.put(html)?;
-        html.put_mark("\"")?;
-        html.put_mark(open)?;
-        html.put_mark(">")?;
-        self.put_summary(html)?;
-        self.put_why(html)?;
+        html.put_mark("<details class=\"break\" id=\"");
+        self.id.put(html);
+        html.put_mark("\"");
+        html.put_mark(open);
+        html.put_mark(">");
+        self.put_summary(html);
+        self.put_why(html);
         if let Some(picture) = picture {
-            self.put_picture(html, picture, open)?;
+            self.put_picture(html, picture, open);
         }
-        html.put_mark("</details>\n")
+        html.put_mark("</details>\n");
     }
 
     /// Puts the number of the record.
-    fn put_record(&self, html: &mut Markup) -> Done {
-        html.put_mark("record ")?;
-        put_thousands(html, u64::from(self.run.first().at))
+    fn put_record(&self, html: &mut Markup) {
+        html.put_mark("record ");
+        html.put_thousands(u64::from(self.run.first().at));
     }
 
     /// Puts the line that always stands there.
-    fn put_summary(&self, html: &mut Markup) -> Done {
-        html.put_mark("<summary><span class=\"break-line\"><span>")?;
-        put_clock(html, self.run.first().time_us)?;
-        html.put_mark("</span> <span class=\"soft\">")?;
-        self.put_record(html)?;
-        html.put_mark("</span> <span>")?;
-        put_reason(html, self.run.first().reason)?;
-        html.put_mark("</span> <span>")?;
-        html.put_piece(&self.sentence)?;
-        self.put_row(html)?;
-        html.put_mark("</span></span></summary>\n")
+    fn put_summary(&self, html: &mut Markup) {
+        html.put_mark("<summary><span class=\"break-line\"><span>");
+        put_clock(html, self.run.first().time_us);
+        html.put_mark("</span> <span class=\"soft\">");
+        self.put_record(html);
+        html.put_mark("</span> <span>");
+        put_reason(html, self.run.first().reason);
+        html.put_mark("</span> <span>");
+        html.put_piece(&self.sentence);
+        self.put_row(html);
+        html.put_mark("</span></span></summary>\n");
     }
 
     /// Puts how many breaks there are and up to which record and time, where there are several.
-    fn put_row(&self, html: &mut Markup) -> Done {
+    fn put_row(&self, html: &mut Markup) {
         if self.run.breaks() == 1 {
-            return Ok(());
+            return;
         }
-        html.put_mark(" ")?;
-        put_run(html, &self.run)?;
-        html.put_mark(".")
+        html.put_mark(" ");
+        put_run(html, &self.run);
+        html.put_mark(".");
     }
 
     /// Puts why it came: of a contradiction the list of its replies, and the lines folded.
-    fn put_why(&self, html: &mut Markup) -> Done {
-        let has_list = !self.replies.as_slice().is_empty();
+    fn put_why(&self, html: &mut Markup) {
+        let has_list = !self.replies.is_empty();
         if has_list {
-            html.put_piece(&self.replies)?;
-            html.put_mark("<details><summary>As <code>why</code> prints it</summary>\n")?;
+            html.put_piece(&self.replies);
+            html.put_mark("<details><summary>As <code>why</code> prints it</summary>\n");
         }
-        html.put_mark("<pre>")?;
-        html.put_piece(&self.why)?;
-        html.put_mark("</pre>\n")?;
-        html.put_mark(if has_list { "</details>\n" } else { "" })
+        html.put_mark("<pre>");
+        html.put_piece(&self.why);
+        html.put_mark("</pre>\n");
+        html.put_mark(if has_list { "</details>\n" } else { "" });
     }
 
     /// Puts its picture.
-    fn put_picture(&self, html: &mut Markup, picture: &Markup, open: &'static str) -> Done {
-        html.put_mark("<details")?;
-        html.put_mark(open)?;
-        html.put_mark("><summary>Picture of ")?;
-        self.put_record(html)?;
-        html.put_mark("</summary>\n<figure><figcaption>Both wires around ")?;
-        self.put_record(html)?;
-        html.put_mark(", the controller above and the deck below</figcaption>\n")?;
+    fn put_picture(&self, html: &mut Markup, picture: &Markup, open: &'static str) {
+        html.put_mark("<details");
+        html.put_mark(open);
+        html.put_mark("><summary>Picture of ");
+        self.put_record(html);
+        html.put_mark("</summary>\n<figure><figcaption>Both wires around ");
+        self.put_record(html);
+        html.put_mark(", the controller above and the deck below</figcaption>\n");
         html.put_mark(
             "<div class=\"wires\" tabindex=\"0\" role=\"region\" aria-label=\"Picture of ",
-        )?;
-        self.put_record(html)?;
-        html.put_mark("\">\n")?;
-        html.put_piece(picture)?;
-        html.put_mark("\n</div></figure>\n</details>\n")
+        );
+        self.put_record(html);
+        html.put_mark("\">\n");
+        html.put_piece(picture);
+        html.put_mark("\n</div></figure>\n</details>\n");
     }
 }

@@ -3,44 +3,43 @@
 use crate::again::Again;
 use crate::breaks::Breaks;
 use crate::doubts::Doubts;
-use crate::html::put_thousands;
 use block9::Reason;
 use picture9::{Done, MOST_PICTURES, Markup};
 
 impl Breaks<'_> {
     /// Puts the section. A command is asked again so, and signs of the capture put reasons in doubt so.
     pub(crate) fn put(&self, html: &mut Markup, again: &Again<'_>, doubts: &Doubts) -> Done {
-        html.put_mark("<section id=\"breaks\">\n<h2>Breaks</h2>\n")?;
+        html.put_mark("<section id=\"breaks\">\n<h2>Breaks</h2>\n");
         if self.count == 0 {
-            html.put_mark("<p>No record breaks a rule.</p>\n")?;
+            html.put_mark("<p>No record breaks a rule.</p>\n");
         } else {
             self.reasons.put(html, doubts)?;
-            self.put_advice(html)?;
-            self.put_entries(html)?;
-            self.put_unlisted(html, again)?;
+            self.put_advice(html);
+            self.put_entries(html);
+            self.put_unlisted(html, again);
         }
-        html.put_mark("</section>\n")
+        html.put_mark("</section>\n");
+        Ok(())
     }
 
     /// Puts what to look at first, and what to think of several breaks.
-    fn put_advice(&self, html: &mut Markup) -> Done {
+    fn put_advice(&self, html: &mut Markup) {
         if self.begins_inside() {
             html.put_mark(
                 "<p><b>Suspect the tap first:</b> the capture begins inside a reply or a command, or its two wires are swapped.",
-            )?;
-            html.put_mark(" Ask again with <code>--sync</code>.</p>\n")?;
+            );
+            html.put_mark(" Ask again with <code>--sync</code>.</p>\n");
         } else if self.reasons.is_timing() {
             html.put_mark(
                 "<p><b>Suspect the tap first:</b> only times break the rules here, and an adapter that collects bytes",
-            )?;
-            html.put_mark(" gives them wrong times.</p>\n")?;
+            );
+            html.put_mark(" gives them wrong times.</p>\n");
         }
         if self.count > 1 {
-            html.put_mark("<p>")?;
-            self.put_what_follows(html)?;
-            html.put_mark("</p>\n")?;
+            html.put_mark("<p>");
+            self.put_what_follows(html);
+            html.put_mark("</p>\n");
         }
-        Ok(())
     }
 
     /// Whether the first record breaks a rule as where a capture begins inside traffic.
@@ -56,45 +55,44 @@ impl Breaks<'_> {
     }
 
     /// Puts what to think of several breaks. A late reply ends nothing.
-    fn put_what_follows(&self, html: &mut Markup) -> Done {
+    fn put_what_follows(&self, html: &mut Markup) {
         let late = self.reasons.breaks_by(Reason::LateReply);
         if late == self.count {
-            return html.put_mark("After a late reply everything known of the deck stays known.");
+            html.put_mark("After a late reply everything known of the deck stays known.");
+            return;
         }
         html.put_mark(
             "The number of breaks is not the number of faults: one lost byte can break two parts. After a break",
-        )?;
+        );
         html.put_mark(if late > 0 {
             ", unless it is a late reply,"
         } else {
             ""
-        })?;
-        html.put_mark(" nothing is known of the deck until it is asked again.")
+        });
+        html.put_mark(" nothing is known of the deck until it is asked again.");
     }
 
     /// Puts the breaks that are listed.
-    fn put_entries(&self, html: &mut Markup) -> Done {
+    fn put_entries(&self, html: &mut Markup) {
         for (place, entry) in self.listed.as_slice().iter().enumerate() {
-            entry.put(html, self.pictures.svg(place), place == 0)?;
+            entry.put(html, self.pictures.svg(place), place == 0);
         }
-        Ok(())
     }
 
     /// Puts what has no lines or no picture here, and how to get it.
-    fn put_unlisted(&self, html: &mut Markup, again: &Again<'_>) -> Done {
+    fn put_unlisted(&self, html: &mut Markup, again: &Again<'_>) {
         if self.unlisted > 0 {
-            html.put_mark("<p>")?;
-            put_thousands(html, self.unlisted)?;
-            html.put_mark(" more breaks are not listed. <code>")?;
-            again.put(html, "why --all")?;
-            html.put_mark("</code> lists them.</p>\n")?;
+            html.put_mark("<p>");
+            html.put_thousands(self.unlisted);
+            html.put_mark(" more breaks are not listed. <code>");
+            again.put(html, "why --all");
+            html.put_mark("</code> lists them.</p>\n");
         }
         if self.listed.len() > MOST_PICTURES {
-            html.put_whole("<p class=\"soft\">The first ", MOST_PICTURES as u64)?;
-            html.put_mark(" breaks have a picture. <code>")?;
-            again.put(html, "picture --all --at RECORD")?;
-            html.put_mark("</code> draws any other.</p>\n")?;
+            html.put_whole("<p class=\"soft\">The first ", MOST_PICTURES as u64);
+            html.put_mark(" breaks have a picture. <code>");
+            again.put(html, "picture --all --at RECORD");
+            html.put_mark("</code> draws any other.</p>\n");
         }
-        Ok(())
     }
 }

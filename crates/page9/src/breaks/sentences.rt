@@ -1,10 +1,10 @@
 //! What happened at a break, in one sentence, and the command at which it happened.
 
-use crate::html::{put_byte, put_lasting, put_thousands};
+use crate::html::put_lasting;
 use block9::{Open, Reason};
 use capture9::{LineByte, Wire};
 use deck9::Profile;
-use picture9::{Done, Markup, command_name};
+use picture9::{Markup, command_name};
 use report9::{WhyNo, end_before, put_bytes};
 use view9::Called;
 
@@ -58,12 +58,7 @@ struct Said<'a> {
 }
 
 /// Puts the sentence of a break, whose record came at this time.
-pub(super) fn put_sentence(
-    html: &mut Markup,
-    profile: &Profile,
-    why: &WhyNo,
-    time_us: u64,
-) -> Done {
+pub(super) fn put_sentence(html: &mut Markup, profile: &Profile, why: &WhyNo, time_us: u64) {
     let WhyNo::Break {
         reason,
         tail,
@@ -73,7 +68,8 @@ pub(super) fn put_sentence(
         ..
     } = why
     else {
-        return put_contradiction(html, why, time_us);
+        put_contradiction(html, why, time_us);
+        return;
     };
     let tail = tail.as_slice();
     let end_us = end_before(tail, before);
@@ -98,47 +94,49 @@ pub(super) fn put_sentence(
 }
 
 /// Puts how many replies contradict one another, and over how long.
-fn put_contradiction(html: &mut Markup, why: &WhyNo, time_us: u64) -> Done {
+fn put_contradiction(html: &mut Markup, why: &WhyNo, time_us: u64) {
     let WhyNo::Contradiction {
         exchanges,
         places,
         ..
     } = why
     else {
-        return Ok(());
+        return;
     };
     if places.len() == 1 {
-        return html.put_mark("No deck can have given this reply.");
+        html.put_mark("No deck can have given this reply.");
+        return;
     }
     let first = places.first().and_then(|place| exchanges.get(*place));
     let first_us = first.map_or(time_us, |first| first.time_us);
-    put_thousands(html, places.len() as u64)?;
-    html.put_mark(" replies contradict one another, over ")?;
-    put_lasting(html, time_us.saturating_sub(first_us))?;
-    html.put_mark(".")
+    html.put_thousands(places.len() as u64);
+    html.put_mark(" replies contradict one another, over ");
+    put_lasting(html, time_us.saturating_sub(first_us));
+    html.put_mark(".");
 }
 
 impl Said<'_> {
     /// Puts what the command is called.
-    fn put_asked(&self, html: &mut Markup, marks: &'static str) -> Done {
-        html.put_mark(marks)?;
+    fn put_asked(&self, html: &mut Markup, marks: &'static str) {
+        html.put_mark(marks);
         let Some(asked) = self.asked else {
-            return html.put_mark("the command");
+            html.put_mark("the command");
+            return;
         };
-        put_called(html, asked)
+        put_called(html, asked);
     }
 
     /// Puts how long the record came after the one before.
-    fn put_after(&self, html: &mut Markup, marks: &'static str) -> Done {
-        html.put_mark(marks)?;
-        put_thousands(html, self.after_us.unwrap_or(0))?;
-        html.put_mark(" &#181;s")
+    fn put_after(&self, html: &mut Markup, marks: &'static str) {
+        html.put_mark(marks);
+        html.put_thousands(self.after_us.unwrap_or(0));
+        html.put_mark(" &#181;s");
     }
 
     /// Puts the byte that breaks.
-    fn put_sent(&self, html: &mut Markup, marks: &'static str) -> Done {
-        html.put_mark(marks)?;
-        put_byte(html, self.sent.byte)
+    fn put_sent(&self, html: &mut Markup, marks: &'static str) {
+        html.put_mark(marks);
+        html.put_byte(self.sent.byte);
     }
 
     /// Whose wire it came on.
@@ -150,22 +148,22 @@ impl Said<'_> {
     }
 
     /// Puts the sentence of a reply or a command at a wrong time.
-    fn put_turn(&self, html: &mut Markup, reason: Reason) -> Done {
+    fn put_turn(&self, html: &mut Markup, reason: Reason) {
         match reason {
             Reason::LateReply => {
-                self.put_asked(html, "The reply to ")?;
-                self.put_after(html, " began ")?;
+                self.put_asked(html, "The reply to ");
+                self.put_after(html, " began ");
                 html.put_mark(" after it.")
             }
             Reason::NoReply => {
-                self.put_asked(html, "")?;
-                self.put_after(html, " got no reply; the next command came ")?;
+                self.put_asked(html, "");
+                self.put_after(html, " got no reply; the next command came ");
                 html.put_mark(" after it.")
             }
             Reason::CommandBeforeReply => {
-                self.put_sent(html, "The controller sent ")?;
-                self.put_after(html, ", ")?;
-                self.put_asked(html, " after ")?;
+                self.put_sent(html, "The controller sent ");
+                self.put_after(html, ", ");
+                self.put_asked(html, " after ");
                 html.put_mark(".")
             }
             _ => self.put_without_command(html),
@@ -173,41 +171,43 @@ impl Said<'_> {
     }
 
     /// Puts the sentence of a byte of the deck while no command waited.
-    fn put_without_command(&self, html: &mut Markup) -> Done {
+    fn put_without_command(&self, html: &mut Markup) {
         if self.after_us.is_none() {
-            self.put_sent(html, "The deck sent ")?;
-            return html.put_mark(".");
+            self.put_sent(html, "The deck sent ");
+            html.put_mark(".");
+            return;
         }
-        self.put_asked(html, "After the reply to ")?;
-        self.put_sent(html, " the deck sent ")?;
-        self.put_after(html, ", ")?;
-        html.put_mark(" later.")
+        self.put_asked(html, "After the reply to ");
+        self.put_sent(html, " the deck sent ");
+        self.put_after(html, ", ");
+        html.put_mark(" later.");
     }
 
     /// Puts the sentence of a byte inside the other wire's block.
-    fn put_inside(&self, html: &mut Markup, reason: Reason, open: &Open) -> Done {
+    fn put_inside(&self, html: &mut Markup, reason: Reason, open: &Open) {
         if reason == Reason::ReplyInsideCommand {
-            self.put_sent(html, "The deck sent ")?;
-            html.put_whole(" when ", open.asked as u64)?;
-            html.put_whole(" of ", open.wanted as u64)?;
-            return html.put_mark(" bytes of the command had come.");
+            self.put_sent(html, "The deck sent ");
+            html.put_whole(" when ", open.asked as u64);
+            html.put_whole(" of ", open.wanted as u64);
+            html.put_mark(" bytes of the command had come.");
+            return;
         }
-        html.put_whole("", open.answered as u64)?;
-        html.put_whole(" of ", open.wanted as u64)?;
-        self.put_asked(html, " bytes of the reply to ")?;
-        self.put_after(html, " had come; ")?;
-        self.put_sent(html, " later the controller sent ")?;
-        html.put_mark(".")
+        html.put_whole("", open.answered as u64);
+        html.put_whole(" of ", open.wanted as u64);
+        self.put_asked(html, " bytes of the reply to ");
+        self.put_after(html, " had come; ");
+        self.put_sent(html, " later the controller sent ");
+        html.put_mark(".");
     }
 
     /// Puts the sentence of a group of the other wire. Before the first record of a part nothing stands.
-    fn put_wrong_group(&self, html: &mut Markup) -> Done {
-        self.put_sent(html, "")?;
-        html.put_mark(" on the ")?;
-        html.put_mark(self.sender())?;
-        html.put_mark("'s wire")?;
+    fn put_wrong_group(&self, html: &mut Markup) {
+        self.put_sent(html, "");
+        html.put_mark(" on the ");
+        html.put_mark(self.sender());
+        html.put_mark("'s wire");
         if self.after_us.is_some() {
-            self.put_after(html, ", ")?;
+            self.put_after(html, ", ");
             let is_reply = self.sent.wire == Wire::Controller;
             self.put_asked(
                 html,
@@ -216,18 +216,18 @@ impl Said<'_> {
                 } else {
                     " after "
                 },
-            )?;
+            );
         }
-        html.put_mark(".")
+        html.put_mark(".");
     }
 
     /// Puts the sentence of a wrong sum, where this one is right.
-    fn put_wrong_sum(&self, html: &mut Markup, sum: u8) -> Done {
-        html.put_mark("The sum is ")?;
-        put_byte(html, sum)?;
-        html.put_mark("; the ")?;
-        html.put_mark(self.sender())?;
-        self.put_sent(html, " sent ")?;
+    fn put_wrong_sum(&self, html: &mut Markup, sum: u8) {
+        html.put_mark("The sum is ");
+        html.put_byte(sum);
+        html.put_mark("; the ");
+        html.put_mark(self.sender());
+        self.put_sent(html, " sent ");
         let is_reply = self.sent.wire == Wire::Deck;
         self.put_asked(
             html,
@@ -236,59 +236,49 @@ impl Said<'_> {
             } else {
                 ", in "
             },
-        )?;
-        html.put_mark(".")
+        );
+        html.put_mark(".");
     }
 
     /// Puts the sentence of a silence inside a block.
-    fn put_gap(&self, html: &mut Markup) -> Done {
-        self.put_after(html, "")?;
-        html.put_mark(" between two bytes of the ")?;
-        html.put_mark(self.sender())?;
-        html.put_mark("'s block.")
+    fn put_gap(&self, html: &mut Markup) {
+        self.put_after(html, "");
+        html.put_mark(" between two bytes of the ");
+        html.put_mark(self.sender());
+        html.put_mark("'s block.");
     }
 
     /// Puts the sentence of a block that is whole and wrong, of which these records came, so many of them the command's.
-    fn put_block(
-        &self,
-        html: &mut Markup,
-        reason: Reason,
-        tail: &[LineByte],
-        asked: usize,
-    ) -> Done {
+    fn put_block(&self, html: &mut Markup, reason: Reason, tail: &[LineByte], asked: usize) {
         let (command, reply) = tail.split_at(asked.min(tail.len()));
         match reason {
             Reason::WrongReply => {
-                self.put_asked(html, "")?;
-                html.put_mark(" was answered with ")?;
-                put_records(html, reply)?;
-                self.put_sent(html, " ")?;
+                self.put_asked(html, "");
+                html.put_mark(" was answered with ");
+                put_records(html, reply);
+                self.put_sent(html, " ");
             }
             Reason::InvalidCommandTime => {
-                self.put_asked(html, "")?;
-                html.put_mark(" carries ")?;
-                put_records(html, command.get(2..6).unwrap_or(&[]))?;
+                self.put_asked(html, "");
+                html.put_mark(" carries ");
+                put_records(html, command.get(2..6).unwrap_or(&[]));
             }
             _ => {
-                self.put_asked(html, "The reply to ")?;
-                html.put_mark(" carries ")?;
-                put_records(html, reply.get(2..6).unwrap_or(&[]))?;
+                self.put_asked(html, "The reply to ");
+                html.put_mark(" carries ");
+                put_records(html, reply.get(2..6).unwrap_or(&[]));
             }
         }
-        html.put_mark(".")
+        html.put_mark(".");
     }
 }
 
 /// Puts what a command is called.
-pub(super) fn put_called(html: &mut Markup, called: Called<'_>) -> Done {
-    let mut name = Vec::new(html.alloc());
-    called.put(&mut name)?;
-    html.put_foreign(name.as_slice())
+pub(super) fn put_called(html: &mut Markup, called: Called<'_>) {
+    html.put_with(|name| called.put(name));
 }
 
 /// Puts the bytes of records.
-fn put_records(html: &mut Markup, records: &[LineByte]) -> Done {
-    let mut bytes = Vec::new(html.alloc());
-    put_bytes(&mut bytes, records)?;
-    html.put_foreign(bytes.as_slice())
+fn put_records(html: &mut Markup, records: &[LineByte]) {
+    html.put_with(|bytes| put_bytes(bytes, records));
 }

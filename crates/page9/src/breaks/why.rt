@@ -1,6 +1,5 @@
 //! The lines of `why`, with the verdict as the last one.
 
-use crate::html::put_thousands;
 use deck9::Profile;
 use picture9::{Done, Markup};
 use report9::{WhyNo, put_why_for};
@@ -21,13 +20,15 @@ pub(super) fn put_why(html: &mut Markup, profile: &Profile, why: &WhyNo, most: u
     let lines = lines.strip_suffix(b"\n").unwrap_or(lines);
     let replies = replies_of(why);
     if replies <= most.saturating_add(1) {
-        return html.put_foreign(lines);
+        html.put_foreign(lines);
+    } else {
+        put_cut(html, lines, most, replies);
     }
-    put_cut(html, lines, most, replies)
+    Ok(())
 }
 
 /// Puts lines, of which so many are replies: of these the first, how many more there are, and the last.
-pub(super) fn put_cut(html: &mut Markup, lines: &[u8], most: usize, replies: usize) -> Done {
+pub(super) fn put_cut(html: &mut Markup, lines: &[u8], most: usize, replies: usize) {
     let mut number = 0usize;
     for line in lines.split(|byte| *byte == b'\n') {
         number = number.saturating_add(1);
@@ -36,12 +37,11 @@ pub(super) fn put_cut(html: &mut Markup, lines: &[u8], most: usize, replies: usi
         }
         if number == replies {
             let more = replies.saturating_sub(most).saturating_sub(1);
-            html.put_mark("\n... ")?;
-            put_thousands(html, more as u64)?;
-            html.put_mark(" more replies")?;
+            html.put_mark("\n... ");
+            html.put_thousands(more as u64);
+            html.put_mark(" more replies");
         }
-        html.put_mark(if number > 1 { "\n" } else { "" })?;
-        html.put_foreign(line)?;
+        html.put_mark(if number > 1 { "\n" } else { "" });
+        html.put_foreign(line);
     }
-    Ok(())
 }

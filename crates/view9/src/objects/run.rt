@@ -28,8 +28,8 @@ pub fn write_json_run<W: Write>(
             for (exchange, state) in exchanges.iter().zip(states.iter()) {
                 last = last.saturating_add(exchange.records() as u64);
                 let mut line = Line::new(alloc, "state")?;
-                line.put("record", Told::Count(last))?;
-                line.put_fields(profile, &known_state(state), Field::told(profile.hands))?;
+                line.put("record", Told::Count(last));
+                line.put_fields(profile, &known_state(state), Field::told(profile.hands));
                 line.write(alloc, writer)?;
             }
             let exchanges = exchanges.len() as u64;

@@ -1,7 +1,7 @@
 //! Small captures and what stands on their pages, by hand.
 
-use crate::{PageOf, Readings, write_page};
 use deck9::{Hands, Profile};
+use page9::{PageOf, Readings, write_page};
 use report9::{Beginning, JudgeError, Stretch};
 use std::alloc::Global;
 use std::process::Abort;

@@ -1,6 +1,6 @@
 //! Small captures, and the facts and signs that each has, by hand.
 
-use crate::write_info;
+use info9::write_info;
 use report9::{Beginning, JudgeError};
 use std::alloc::{AllocError, Global};
 use std::fmt::Write;

@@ -1,6 +1,6 @@
 //! Texts that are refused, and what is said of them.
 
-use crate::{SheetError, read_sheet};
+use sheet9::{SheetError, read_sheet};
 use std::test::Fail;
 
 /// Texts, each with its refusal's.

@@ -1,10 +1,10 @@
 //! Each converter once, and a split, with values by hand. The tables of exports are the program's own tests.
 
-use crate::{
+use capture9::{LineByte, Wire};
+use convert9::{
     ConvertFault, LogWords, Notice, SaleaeWords, SigrokWords, SplitFault, SplitWords, convert_log,
     convert_saleae, convert_sigrok, part_name, split_capture, write_capture,
 };
-use capture9::{LineByte, Wire};
 use std::alloc::Global;
 use std::io;
 use std::process::Abort;

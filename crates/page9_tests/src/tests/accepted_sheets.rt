@@ -1,8 +1,8 @@
 //! Sheets that are taken.
 
-use crate::read_sheet;
 use block9::ReplyForm;
 use deck9::{Deck, Forgotten, Mode};
+use sheet9::read_sheet;
 use std::collections::BTreeMap;
 use std::test::Fail;
 

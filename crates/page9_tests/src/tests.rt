@@ -1,0 +1,6 @@
+//! Small texts and what is made of them, with values by hand.
+mod accepted_sheets;
+mod convert;
+mod info;
+mod page;
+mod refused_sheets;

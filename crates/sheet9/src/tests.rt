@@ -1,3 +1,0 @@
-//! Sheets and what they mean, and how each fault is told, with values by hand.
-mod accepted;
-mod refused;
