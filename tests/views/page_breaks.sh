@@ -25,7 +25,7 @@ page_of() {
     capture=$1
     (cd "$(dirname "$capture")" && "$program" page "${@:2}" "$(basename "$capture")") > "$work/page" 2> "$work/err"
     status=$?
-    "$program" why --quiet --all "${@:2}" "$capture" > "$work/why"
+    "$program" why --quiet --all "${@:2}" "$capture" > "$work/why" 2> /dev/null # it takes no stretch
     sed -n '/^<section id="breaks">$/,/^<\/section>$/p' "$work/page" > "$work/out"
 }
 

@@ -46,22 +46,24 @@ pub(crate) fn draw_around(svg: &mut Markup, layout: &Layout) -> Done {
     let has_ties = draw_ties(svg, layout);
     draw_blocks(svg, layout)?;
     draw_times(svg, layout)?;
-    begin_text(svg, (MARGIN, 352), Look::Note);
+    draw_notes(svg, has_cuts, has_ties);
+    Ok(())
+}
+
+/// Draws what a box is and what a cut says; and on a line above it what it means that boxes are joined, where some are.
+fn draw_notes(svg: &mut Markup, has_cuts: bool, has_ties: bool) {
+    let y = if has_ties { 358 } else { 352 };
+    if has_ties {
+        let words = b"bytes that a line joins have one stamp";
+        draw_text(svg, (MARGIN, y - 12), Look::Note, words);
+    }
+    begin_text(svg, (MARGIN, y), Look::Note);
     svg.put_whole("a box is a byte of ", BYTE_TIME_US);
     svg.put_mark(" &#181;s, from its stamp on");
     if has_cuts {
         svg.put_mark("; a silence that is cut has its length beside the cut");
     }
     end_text(svg);
-    if has_ties {
-        draw_text(
-            svg,
-            (MARGIN, 341),
-            Look::Note,
-            b"bytes that a line joins have one stamp",
-        );
-    }
-    Ok(())
 }
 
 /// Draws a wire, with its letter and whose it is.

@@ -1,5 +1,5 @@
 //! A line of JSON: an object, member by member.
-ghost use Rattle.std.specs.Prelude.{◌≡◌, ◌++◌, [], ◌∷◌, ℕ, List, IfOk, OnOk};
+ghost use Rattle.std.specs.Prelude.{◌≡◌, ◌++◌, [], ◌∷◌, ℕ, List, IfOk, OnOk, false};
 ghost use Rattle.std.specs.Io.KnownBytes.{Appends};
 ghost use Rattle.view9.specs.Json.{IsObject};
 ghost use Rattle.view9.specs.Working.{AppendsMembers};
@@ -175,9 +175,10 @@ impl<'a> Line<'a> {
         self.put("text", Told::Word(reason.text()));
     }
 
-    /// Writes the line, in one piece.
+    /// Writes the line, in one piece; an error where memory was refused for a member.
     pub(super) fn write<W: Write>(&self, alloc: Global, writer: &mut W) -> Result<(), JudgeError>
-        ensures { OnOk result ((text : List ℕ) × IsObject text × Appends (W.contents writer.old) (W.contents writer.new) (text ++ 0x0A ∷ [])) }
+        ensures whole { OnOk result (self.now.is_short ≡ false) }
+        ensures object { OnOk result ((text : List ℕ) × IsObject text × Appends (W.contents writer.old) (W.contents writer.new) (text ++ 0x0A ∷ [])) }
     {
         if self.is_short {
             return Err(AllocError.into());
