@@ -18,7 +18,7 @@ use view9::{Ending, ExplainedView, SeenBreak, SeenExchange, SeenLate, Strength, 
 /// What the sections of the page have so far.
 #[derive(Drop)]
 pub(crate) struct Following<'a> {
-    profile: &'a Profile,
+    pub(crate) profile: &'a Profile,
     pub(crate) session: Session,
     pub(crate) breaks: Breaks<'a>,
     pub(crate) happened: Happened<'a>,

@@ -46,11 +46,13 @@ pub struct Readings<R: Read + Drop> {
     pub drawn: R,
 }
 
-/// What the second reading of a capture finds.
+/// What the last reading of a capture finds.
 #[derive(Clone, Copy)]
 struct Found {
     signs: [Option<Sign>; 9],
-    /// The time of the last record, in microseconds; none where there is none.
+    /// The time of the first record, in microseconds; none where there is none.
+    first_us: Option<u64>,
+    /// That of the last.
     last_us: Option<u64>,
 }
 
@@ -71,11 +73,7 @@ pub fn write_page<R: Read + Drop, W: Write>(
         judged,
         drawn,
     } = readings;
-    let first_us = first_time(alloc, first)?;
-    let window = Window {
-        from_us: first_us.unwrap_or(0).max(page.stretch.from_us),
-        to_us: page.stretch.to_us,
-    };
+    let window = window_of(first_time(alloc, first)?, page.stretch);
     let scope = Scope {
         extent: Extent::WholeCapture,
         beginning: page.beginning,
@@ -83,29 +81,16 @@ pub fn write_page<R: Read + Drop, W: Write>(
     let mut following = Following::new(alloc, window, page.stretch, profile, page.beginning)?;
     let ending = show_explained(alloc, judged, &mut following, scope, page.stretch, profile)?;
     let found = read_again(alloc, drawn, profile, page.beginning, &mut following.breaks)?;
-    following.end_capture(found.last_us.unwrap_or(0))?;
-    let mut html = Markup::new(alloc);
-    let whole = span_of(first_us, found.last_us, Window::ALL);
-    let shown = span_of(first_us, found.last_us, window);
-    put_page(
-        &mut html,
-        page,
-        profile,
-        &mut following,
-        &found,
-        (whole, shown),
-    )?;
-    write_all(writer, html.whole()?)?;
+    write_found(alloc, writer, page, &mut following, &found)?;
     Ok(ending)
 }
 
-/// From when to when a capture is shown in a window, where it has a record.
-fn span_of(first_us: Option<u64>, last_us: Option<u64>, window: Window) -> Option<Span> {
-    let (first_us, last_us) = (first_us?, last_us?);
-    Some(Span {
-        from_us: first_us.max(window.from_us),
-        to_us: last_us.min(window.to_us.unwrap_or(last_us)),
-    })
+/// The time that is shown of a capture whose first record came then, where it has one.
+fn window_of(first_us: Option<u64>, stretch: Stretch) -> Window {
+    Window {
+        from_us: first_us.unwrap_or(0).max(stretch.from_us),
+        to_us: stretch.to_us,
+    }
 }
 
 /// The time of the first record of a capture, in microseconds; none where it has none. What is wrong with it, the judging says.
@@ -125,31 +110,58 @@ fn read_again<R: Read + Drop>(
 ) -> Result<Found, JudgeError> {
     let mut records = Records::new(alloc, reader, GREATEST_LIMIT);
     let mut signs = Signs::new(profile.rate, beginning);
-    let mut last_us = None;
+    let (mut first_us, mut last_us) = (None, None);
     for number in 1..=u32::MAX {
         let Some(record) = records.next()? else {
             break;
         };
         signs.take(&record);
         breaks.record(number, record)?;
+        first_us = first_us.or(Some(record.time_us));
         last_us = Some(record.time_us);
     }
     breaks.end_records()?;
     Ok(Found {
         signs: signs.signs(),
+        first_us,
         last_us,
     })
 }
 
-/// Puts the page, of a capture that is so long, and of which so much is shown.
+impl Found {
+    /// From when to when the capture is shown in a window, where it has a record.
+    fn span_in(&self, window: Window) -> Option<Span> {
+        let (first_us, last_us) = (self.first_us?, self.last_us?);
+        Some(Span {
+            from_us: first_us.max(window.from_us),
+            to_us: last_us.min(window.to_us.unwrap_or(last_us)),
+        })
+    }
+}
+
+/// Writes the page, in one piece.
+fn write_found<W: Write>(
+    alloc: Global,
+    writer: &mut W,
+    page: &PageOf<'_>,
+    following: &mut Following<'_>,
+    found: &Found,
+) -> Result<(), JudgeError> {
+    following.end_capture(found.last_us.unwrap_or(0))?;
+    let mut html = Markup::new(alloc);
+    put_page(&mut html, page, following, found)?;
+    Ok(write_all(writer, html.whole()?)?)
+}
+
+/// Puts the page.
 fn put_page(
     html: &mut Markup,
     page: &PageOf<'_>,
-    profile: &Profile,
     following: &mut Following<'_>,
     found: &Found,
-    (whole, shown): (Option<Span>, Option<Span>),
 ) -> Done {
+    let profile = following.profile;
+    let shown = found.span_in(window_of(found.first_us, page.stretch));
     let words = Words::of(html.alloc(), page, profile)?;
     let again = Again {
         options: words.options.as_slice(),
@@ -163,7 +175,7 @@ fn put_page(
         breaks: &following.breaks,
         strength: &following.strength,
         reasons: reasons.as_slice(),
-        whole,
+        whole: found.span_in(Window::ALL),
         shown,
     };
     put_title(html, page, following.breaks.count());
