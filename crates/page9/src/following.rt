@@ -12,7 +12,7 @@ use block9::Reason;
 use deck9::Profile;
 use picture9::Done;
 use report9::{Beginning, JudgeError, Stretch, Totals, WhyNo};
-use std::alloc::{AllocError, Global};
+use std::alloc::Global;
 use view9::{Ending, ExplainedView, SeenBreak, SeenExchange, SeenLate, Strength, View};
 
 /// What the sections of the page have so far.
@@ -48,10 +48,10 @@ impl<'a> Following<'a> {
         stretch: Stretch,
         profile: &'a Profile,
         beginning: Beginning,
-    ) -> Result<Following<'a>, AllocError> {
-        Ok(Following {
+    ) -> Following<'a> {
+        Following {
             profile,
-            session: Session::new(alloc, window, profile)?,
+            session: Session::new(alloc, window, profile),
             breaks: Breaks::new(alloc, profile, beginning),
             happened: Happened::new(alloc, profile),
             delays: DelayTable::new(alloc, profile),
@@ -60,7 +60,7 @@ impl<'a> Following<'a> {
             strength: Strength::new(alloc, profile),
             totals: NOTHING,
             why: None,
-        })
+        }
     }
 
     /// Takes the end of the capture, whose last record came at this time, in microseconds.

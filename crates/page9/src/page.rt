@@ -1,7 +1,6 @@
 //! The page as it is asked for, judged and written.
 
 use crate::again::Again;
-use crate::breaks::Breaks;
 use crate::command::Words;
 use crate::doubts::Doubts;
 use crate::following::Following;
@@ -78,10 +77,9 @@ pub fn write_page<R: Read + Drop, W: Write>(
         extent: Extent::WholeCapture,
         beginning: page.beginning,
     };
-    let mut following = Following::new(alloc, window, page.stretch, profile, page.beginning)?;
+    let mut following = Following::new(alloc, window, page.stretch, profile, page.beginning);
     let ending = show_explained(alloc, judged, &mut following, scope, page.stretch, profile)?;
-    let found = read_again(alloc, drawn, profile, page.beginning, &mut following.breaks)?;
-    write_found(alloc, writer, page, &mut following, &found)?;
+    write_followed(alloc, drawn, writer, page, &mut following)?;
     Ok(ending)
 }
 
@@ -104,23 +102,22 @@ fn first_time<R: Read + Drop>(alloc: Global, reader: R) -> Result<Option<u64>, C
 fn read_again<R: Read + Drop>(
     alloc: Global,
     reader: R,
-    profile: &Profile,
     beginning: Beginning,
-    breaks: &mut Breaks<'_>,
+    following: &mut Following<'_>,
 ) -> Result<Found, JudgeError> {
     let mut records = Records::new(alloc, reader, GREATEST_LIMIT);
-    let mut signs = Signs::new(profile.rate, beginning);
+    let mut signs = Signs::new(following.profile.rate, beginning);
     let (mut first_us, mut last_us) = (None, None);
     for number in 1..=u32::MAX {
         let Some(record) = records.next()? else {
             break;
         };
         signs.take(&record);
-        breaks.record(number, record)?;
+        following.breaks.record(number, record)?;
         first_us = first_us.or(Some(record.time_us));
         last_us = Some(record.time_us);
     }
-    breaks.end_records()?;
+    following.breaks.end_records()?;
     Ok(Found {
         signs: signs.signs(),
         first_us,
@@ -139,17 +136,18 @@ impl Found {
     }
 }
 
-/// Writes the page, in one piece.
-fn write_found<W: Write>(
+/// Writes the page of what was followed of a capture, in one piece.
+fn write_followed<R: Read + Drop, W: Write>(
     alloc: Global,
+    reader: R,
     writer: &mut W,
     page: &PageOf<'_>,
     following: &mut Following<'_>,
-    found: &Found,
 ) -> Result<(), JudgeError> {
+    let found = read_again(alloc, reader, page.beginning, following)?;
     following.end_capture(found.last_us.unwrap_or(0))?;
     let mut html = Markup::new(alloc);
-    put_page(&mut html, page, following, found)?;
+    put_page(&mut html, page, following, &found)?;
     Ok(write_all(writer, html.whole()?)?)
 }
 

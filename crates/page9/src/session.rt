@@ -16,7 +16,7 @@ use crate::span::{Span, Window};
 use crate::touches::Touches;
 use deck9::{Hands, Known, Mode, Profile};
 use picture9::{Done, Markup};
-use std::alloc::{AllocError, Global};
+use std::alloc::Global;
 use tc25::Rate;
 use view9::{Field, SeenExchange, Value};
 
@@ -33,6 +33,7 @@ pub(crate) struct Session {
     pub(crate) marks: Marks,
     shown: ModeOverTime,
     commanded: ModeOverTime,
+    /// The lanes of the other fields, from the first exchange on.
     lanes: Vec<Lane>,
     /// Whether the shown mode was ever known.
     is_mode_known: bool,
@@ -40,14 +41,8 @@ pub(crate) struct Session {
 
 impl Session {
     /// Of nothing yet.
-    pub(crate) fn new(
-        alloc: Global,
-        window: Window,
-        profile: &Profile,
-    ) -> Result<Session, AllocError> {
-        let mut lanes = Vec::new(alloc);
-        push_lanes(&mut lanes, alloc, window, profile.hands)?;
-        Ok(Session {
+    pub(crate) fn new(alloc: Global, window: Window, profile: &Profile) -> Session {
+        Session {
             window,
             hands: profile.hands,
             rate: profile.rate,
@@ -55,9 +50,9 @@ impl Session {
             marks: Marks::new(alloc, window),
             shown: ModeOverTime::new(alloc, window, MODE_HELD_US),
             commanded: ModeOverTime::new(alloc, window, u64::MAX),
-            lanes,
+            lanes: Vec::new(alloc),
             is_mode_known: false,
-        })
+        }
     }
 
     /// Takes an exchange.
@@ -71,6 +66,9 @@ impl Session {
             self.shown.hold(mode, now_us)?;
         }
         self.commanded.follow(known_mode(&seen.after.goal), now_us)?;
+        if self.lanes.is_empty() {
+            push_lanes(&mut self.lanes, self.window, self.hands)?;
+        }
         for lane in self.lanes.as_mut_slice() {
             lane.follow(lane.field.value_in(&seen.after), now_us)?;
         }
@@ -198,7 +196,8 @@ impl Session {
 }
 
 /// Pushes a lane for each field that is not a mode, from the top: for the panel only where it may be touched.
-fn push_lanes(lanes: &mut Vec<Lane>, alloc: Global, window: Window, hands: Hands) -> Done {
+fn push_lanes(lanes: &mut Vec<Lane>, window: Window, hands: Hands) -> Done {
+    let alloc = *lanes.allocator();
     for field in [
         Field::Local,
         Field::Panel,
