@@ -3,7 +3,7 @@
 program=${NINECHECK:-$PWD/crates/ninecheck/out/ninecheck}
 
 # run WORDS...: the program with these words, on the standard input that it is given; its streams are left in $work/out and
-# $work/err. What `why` says to ask next is left out: tests/try.sh has that.
+# $work/err. What `why` says to ask next is left out: tests/views/try.sh has that.
 run() {
     "$program" "$@" > "$work/out" 2> "$work/err"
     status=$?
