@@ -210,17 +210,46 @@ refuses $shipped "$extended" 'D 30 21 51'
 refuses $shipped "$signal_control" 'D 70 21 91'
 # The next command is not named, and takes any reply.
 takes $shipped 'C 60 2C 8C' "$ack"
-# CURRENT TIME SENSE with selectors that are not listed, and one that is: its own replies, and those that are named.
-for selector in '10 7D' '11 7E'; do
-    takes $shipped "C 61 0C $selector" 'D 74 04 00 00 00 10 88'
-    takes $shipped "C 61 0C $selector" 'D 78 06 FF FF FF FF FF FF FF FF 76'
-    refuses $shipped "C 61 0C $selector" "$ack"
-    capture_of "C 61 0C $selector $ack"
+# CURRENT TIME SENSE with a selector that has no line of its own: the line of 61 0C.
+user_bits='D 74 05 FF FF FF FF 75'
+takes $shipped 'C 61 0C 05 72' 'D 74 04 00 00 00 10 88'
+takes $shipped 'C 61 0C 05 72' 'D 78 06 FF FF FF FF FF FF FF FF 76'
+# With one that is not listed, and has a line: that line alone.
+takes $shipped 'C 61 0C 10 7D' "$user_bits"
+takes $shipped 'C 61 0C 10 7D' 'D 74 15 FF FF FF FF 85'
+refuses $shipped 'C 61 0C 10 7D' 'D 74 04 00 00 00 10 88'
+takes $shipped 'C 61 0C 20 8D' 'D 74 07 FF FF FF FF 77'
+refuses $shipped 'C 61 0C 20 8D' "$user_bits"
+takes $shipped 'C 61 0C 33 A0' 'D 78 06 FF FF FF FF FF FF FF FF 76'
+refuses $shipped 'C 61 0C 11 7E' 'D 78 06 FF FF FF FF FF FF FF FF 76'
+for command in 'C 61 0C 05 72' 'C 61 0C 10 7D' 'C 61 0C 11 7E'; do
+    refuses $shipped "$command" "$ack"
+    takes $shipped "$command" "$nak"
+    capture_of "$command $ack"
     ends check 0 'yes: records 7, exchanges 1, open 0'
 done
-takes $shipped 'C 61 0C 01 6E' 'D 74 05 FF FF FF FF 75'
-capture_of 'C 61 0C 01 6E D 74 05 FF FF FF FF 75'
+# With one that is listed: its own replies, and those of its line; so no user bits.
+capture_of "C 61 0C 01 6E $user_bits"
 ends check 1 'no at record 11: P5 wrong kind of reply'
+for command in 'C 61 0C 01 6E' 'C 61 0C 03 70'; do
+    refuses $shipped "$command" "$user_bits"
+    takes $shipped "$command" 'D 74 16 00 00 00 10 9A'
+done
+# A line for one selector leaves the others as they are; with a line for 61 0C beside it, that is what the others take.
+sheet selector '[replies]' '"61 0c 03" = ["74 05"]'
+takes "$work/selector.toml" 'C 61 0C 03 70' "$user_bits"
+refuses "$work/selector.toml" 'C 61 0C 01 6E' "$user_bits"
+takes "$work/selector.toml" 'C 61 0C 05 72' "$ack"
+sheet selectors '[replies]' '"61 0C" = ["74 07"]' '"61 0C 03" = ["74 05"]' '"61 0C 05" = ["7* 06"]'
+takes "$work/selectors.toml" 'C 61 0C 01 6E' 'D 74 07 FF FF FF FF 77'
+refuses "$work/selectors.toml" 'C 61 0C 03 70' 'D 74 07 FF FF FF FF 77'
+takes "$work/selectors.toml" 'C 61 0C 03 70' "$user_bits"
+takes "$work/selectors.toml" 'C 61 0C 05 72' 'D 78 06 FF FF FF FF FF FF FF FF 76'
+refuses "$work/selectors.toml" 'C 61 0C 05 72' 'D 74 07 FF FF FF FF 77'
+# No time is judged in the replies to one that is not listed, even where the same reply to one that is listed would be judged.
+takes "$work/selectors.toml" 'C 61 0C 05 72' 'D 74 06 FF FF FF FF 76'
+capture_of 'C 61 0C 03 70 D 74 06 FF FF FF FF 76'
+ends "check --deck $work/selectors.toml" 1 'no at record 11: P7 invalid time in a reply'
 # The time in a reply of its own is judged, also where the sheet names that reply; in one that only the sheet allows it is not.
 capture_of 'C 61 0C 01 6E D 74 04 FF FF FF FF 74'
 ends "check --deck $shipped" 1 'no at record 11: P7 invalid time in a reply'
@@ -402,6 +431,14 @@ for item in '20 01' '0* 11' '4F 01' '61 0C'; do
     refused "[replies] \"20 61\": \"$item\" is no reply: groups 0, 2, 4 and 6 are a controller's commands" '[replies]' "\"20 61\" = [\"$item\"]"
 done
 refused '[replies] "20 6a": named twice' '[replies]' '"20 6a" = ["10 01"]' '"20 6A" = ["10 01"]'
+refused '[replies] "61 0c 0A": named twice' '[replies]' '"61 0C 0a" = ["74 05"]' '"61 0c 0A" = ["74 05"]'
+# A key of three bytes is CURRENT TIME SENSE with a selector, and stands in [replies] alone.
+for key in '60 20 01' '62 0C 03' '61 0C 3' '61 0C 0g' '61 0C03' '61 0C-03' '61-0C 03' '61 0C 03 '; do
+    refused "[replies] \"$key\": not two bytes in hexadecimal, as \"20 61\"" '[replies]' "\"$key\" = [\"74 05\"]"
+done
+refused '[names] "61 0C 03": not two bytes in hexadecimal, as "20 61"' '[names]' '"61 0C 03" = "A"'
+refused '[forgets] "61 0C 03": not two bytes in hexadecimal, as "20 61"' '[forgets]' '"61 0C 03" = "nothing"'
+refused '[goals] "61 0C 03": not two bytes in hexadecimal, as "20 61"' '[goals]' '"61 0C 03" = ["REC"]'
 refused '"replies": not a table' 'replies = []'
 # The first of several, whatever their order in the file: what is no TOML, a key at the top, and the tables by their names.
 wrong_lines=('[replies]' '"20 61" = []' '[passes]' 'X = []' '[names]' '"20 61" = 1' '[goals]' '"20 65" = []' '[forgets]' '"20 61" = 1')
@@ -536,7 +573,17 @@ judge 'the names' cmp -s \
     <(sed -n '/^\[names\]/,/^\[replies\]/p' decks/nine-pin-commands.toml | grep '^"')
 judge 'the replies' cmp -s \
     <(sed -n 's/^| `\([0-9A-F ]*\)` | [A-Z0-9 +/-]* | [a-z ]* | [^|]* | \([^|]*\) |$/"\1" = [\2]/p' docs/PROFILE.md | tr '`' '"') \
-    <(sed -n '/^\[replies\]/,/^\[forgets\]/p' decks/nine-pin-commands.toml | sed -n 's/^\("[0-9A-F ]*" = \[.*\]\) .*/\1/p')
+    <(sed -n '/^\[replies\]/,/^\[forgets\]/p' decks/nine-pin-commands.toml | sed -n 's/^\("[0-9A-F][0-9A-F] [0-9A-F][0-9A-F]" = \[.*\]\) .*/\1/p')
+# by_selector: the page's table of replies by selector, as lines of a sheet: a row may be of several selectors.
+by_selector() {
+    local selectors replies selector
+    sed -n '/^### Replies by selector/,/^### [^R]/s/^| \(`.*`\) | [^|]* | \(.*\) |$/\1|\2/p' docs/PROFILE.md | tr -d '`' |
+        while IFS='|' read -r selectors replies; do
+            for selector in ${selectors//,/ }; do echo "\"61 0C $selector\" = [\"${replies//, /\", \"}\"]"; done
+        done
+}
+judge 'the replies by selector' cmp -s <(by_selector) <(sed -n 's/^\("61 0C [0-9A-F]*" = \[[^]]*\]\).*/\1/p' decks/nine-pin-commands.toml)
+judge 'there are 11' [ "$(by_selector | wc -l)" = 11 ]
 judge 'there are 48' [ "$(sed -n '/^\[names\]/,/^\[replies\]/p' decks/nine-pin-commands.toml | grep -c '^"')" = 48 ]
 
 tell_counts

@@ -1,5 +1,5 @@
 -- How lists are cut: a cut is the only one, a prefix of what is kept is kept, and the tail alone decides what a record does.
-use Rattle.block9.proofs.Words.{[], after_command, ap, append-nil, append_assoc, arith, Block, block_len, Command, command_of, Controller, Cut, Deck, Exchange, false≢true, head_of, takes}
+use Rattle.block9.proofs.Words.{[], after_command, ap, append-nil, append_assoc, arith, Block, block_len, Command, command_of, Controller, Cut, Deck, Exchange, false≢true, takes}
 use Rattle.block9.proofs.Words.{Idle, in_command, in_reply, is_reply_time_valid, IsBegun, IsCommand, IsExchange, IsInTime, IsKept, IsTail, length, length-append, length_push}
 use Rattle.block9.proofs.Words.{LineByte, List, None, nothing, pairing, place_of, refl, subst, sym, ◌++◌, ◌<◌, ◌∙◌, ◌∷◌, ◌≡◌}
 use Rattle.block9.proofs.LineLemmas.{block_len-append, first_time-push_any, whole_len, whole_long, whole_parts}
@@ -60,7 +60,7 @@ module _ (rules : LineRules) where
           parts.goes_on,
           λ ends. (
             parts.sum_right,
-            ap (takes rules.replies (head_of e.block) e.command) (sym parts.block) ∙ h.kind,
+            ap (takes rules.replies e.block e.command) (sym parts.block) ∙ h.kind,
             ap (is_reply_time_valid rules.rate e.command) (sym parts.block)
                 ∙ h.valid_time,
           ),

@@ -1,5 +1,5 @@
 -- What the table says at each kind of tail: where it says that a record breaks no rule.
-use Rattle.block9.proofs.Words.{[], AfterCommand, ap, arith, Block, block_len, block_of, bytes_of, Command, command_of, Controller, Deck, drop, drop_at, ends_block, get_or, head_of, takes}
+use Rattle.block9.proofs.Words.{[], AfterCommand, ap, arith, Block, block_len, block_of, bytes_of, Command, command_of, Controller, Deck, drop, drop_at, ends_block, get_or, takes}
 use Rattle.block9.proofs.Words.{Counts, fault_at, LeftAside, ReplyLimit}
 use Rattle.block9.proofs.Words.{InCommand, InReply, is_reply_time_valid, IsAnswered, IsBegun, IsCommand, IsInTime, IsWhole, last_time, length, length-append, LineByte, List}
 use Rattle.block9.proofs.Words.{nat_tests, None, pairing, place_of, refl, Some, subst, sum, sym, take, take-append-le, take_all, take_at, take_more, true, Wire, ◌%◌, ◌++◌, ◌+◌}
@@ -92,7 +92,7 @@ module _ (rules : LineRules) where
 
   pub in_reply_quiet : (command reply t : List LineByte) (b : Block) (c : Command) (r : LineByte) → InReplyOf command reply t b c → last_time t ≤ r.time_us
       → pairing rules t r ≡ None
-      ↔ (GoesOn Deck reply r × (ends_block reply ≡ true → (r.byte ≡ sum (bytes_of reply) % 256) × (takes rules.replies (head_of b) c (block_of (bytes_of reply)) ≡ true)
+      ↔ (GoesOn Deck reply r × (ends_block reply ≡ true → (r.byte ≡ sum (bytes_of reply) % 256) × (takes rules.replies b c (block_of (bytes_of reply)) ≡ true)
       × (is_reply_time_valid rules.rate c (block_of (bytes_of reply)) ≡ true)))
   in_reply_quiet command reply t b c r parts later = rw (parts.place, parts.current, parts.block, parts.meant)
       (λ quiet. (grind (arith, nat_tests), λ ends. grind (arith, nat_tests)), λ k. grind (arith, nat_tests))

@@ -10,7 +10,7 @@ use Rattle.block9.specs.declared.exchange.Exchange.{Exchange}
 use Rattle.block9.specs.declared.line_rules.ReplyLimit.TheVariants.{Counts}
 use Rattle.block9.specs.declared.pairer.Step.{Step}
 use Rattle.block9.specs.declared.pairer.Step.TheVariants as step
-use Rattle.block9.specs.Block.{head_of, spelling}
+use Rattle.block9.specs.Block.{spelling}
 use Rattle.block9.specs.Command.{command_of, is_ack, is_nak, is_reply_time_valid}
 use Rattle.block9.specs.Replies.{takes}
 use Rattle.block9.specs.Line.{IsWhole, IsBegun, first_time, last_time, reply_limit}
@@ -35,7 +35,7 @@ pub record IsExchange (rules : LineRules) (records : List LineByte) (e : Exchang
   pub in_time : IsInTime rules asked answered
   pub time : e.time_us ≡ first_time records
   pub delay : last_time asked + e.delay_us ≡ first_time answered
-  pub kind : takes rules.replies (head_of e.block) e.command e.reply ≡ true
+  pub kind : takes rules.replies e.block e.command e.reply ≡ true
   pub valid_time : is_reply_time_valid rules.rate e.command e.reply ≡ true
 
 -- how many records an exchange has

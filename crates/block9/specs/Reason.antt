@@ -10,7 +10,6 @@ use Rattle.block9.specs.declared.command.Command.{Command}
 use Rattle.block9.specs.declared.line_rules.ReplyLimit.TheVariants.{Counts}
 use Rattle.block9.specs.declared.reason.Reason.{Reason}
 use Rattle.block9.specs.declared.reason.Reason.TheVariants.{WrongGroup, WrongSum, ByteGap, ReplyWithoutCommand, ReplyInsideCommand, CommandBeforeReply, CommandInsideReply, WrongReply, InvalidCommandTime, InvalidReplyTime, LateReply, NoReply, NoRun}
-use Rattle.block9.specs.Block.{head_of}
 use Rattle.block9.specs.Command.{command_of, is_reply_time_valid}
 use Rattle.block9.specs.Line.{IsBegun, IsWhole, allows, block_len, byte_gap, bytes_of, group_in, last_time, reply_limit}
 use Rattle.block9.specs.Exchange.{BeginsLate, IsCommand, IsInTime}
@@ -64,7 +63,7 @@ Holds rules WrongSum tail r =
 Holds rules InvalidCommandTime tail r = (b : Block) × IsWhole Controller (tail ++ r ∷ []) b × (command_of rules.rate b ≡ None)
 -- a reply that ends is one that its command does not take, or has a time that should be valid and is not
 Holds rules WrongReply tail r =
-    (b : Block) × (c : Command) × (reply : Block) × EndsReply rules tail r b c reply × (takes rules.replies (head_of b) c reply ≡ false)
+    (b : Block) × (c : Command) × (reply : Block) × EndsReply rules tail r b c reply × (takes rules.replies b c reply ≡ false)
 Holds rules InvalidReplyTime tail r = (b : Block) × (c : Command) × (reply : Block) × EndsReply rules tail r b c reply × (is_reply_time_valid rules.rate c reply ≡ false)
 -- this needs a deck to be followed, so it never holds here
 Holds rules NoRun tail r = ⊥

@@ -1,12 +1,12 @@
 //! The laws of the definitions that contracts cite, each the contract of a function that does nothing, and what
 //! the public constants are.
-ghost use Rattle.std.specs.Prelude.{◌≡◌, ◌+◌, ◌-◌, ◌*◌, ◌<◌, ◌≤◌, ℕ, None, List, [], ◌∷◌, ◌++◌, Contains, codes};
-ghost use Rattle.block9.specs.Command.{fits};
+ghost use Rattle.std.specs.Prelude.{◌≡◌, ◌+◌, ◌-◌, ◌*◌, ◌<◌, ◌≤◌, ℕ, None, Some, List, [], ◌∷◌, ◌++◌, Contains, codes};
+ghost use Rattle.block9.specs.Command.{command_of, fits};
 ghost use Rattle.block9.specs.Exchange.{Cut, IsKept, IsTail};
 ghost use Rattle.block9.specs.Line.{byte_gap, byte_time, last_time, reply_limit};
 ghost use Rattle.block9.specs.Nak.{nak_bits};
 ghost use Rattle.block9.specs.Reason.{IsReason};
-ghost use Rattle.block9.specs.Replies.{Named, TakesNoMore, takes};
+ghost use Rattle.block9.specs.Replies.{NamesNoMore, Named, TakesNoMore, forms_for, takes, time_sense};
 
 use crate::block::Block;
 use crate::command::Command;
@@ -14,8 +14,10 @@ use crate::exchange::Exchange;
 use crate::line_rules::LineRules;
 use crate::nak::NakBits;
 use crate::reason::Reason;
+use crate::replies::TIME_SENSE;
 use crate::{BYTE_GAP_US, BYTE_TIME_US, REPLY_LIMIT_US};
 use capture9::LineByte;
+use tc25::Rate;
 
 /// Where a tail with a next record, which is not earlier, does not keep the rules, there is a reason; and there
 /// is none where it keeps them.
@@ -27,9 +29,13 @@ pub fn some_reason_applies()
 {}
 
 /// Where no replies are named a command takes exactly those that fit it. Where each command takes no fewer than before, records that
-/// kept the rules still keep them, and are cut alike.
+/// kept the rules still keep them, and are cut alike. It takes no fewer where each form that was named for it still is, and a command
+/// that is not listed where nothing is named for it any more.
 pub fn named_replies()
-    ensures none { (head : ℕ) (command : Command) (reply : Block) → takes None head command reply ≡ fits command reply }
+    ensures none { (block : Block) (command : Command) (reply : Block) → takes None block command reply ≡ fits command reply }
+    ensures named { (rate : Rate) (less more : Named)
+        → ((block : Block) (command : Command) → command_of rate block ≡ Some command → NamesNoMore command (forms_for less block) (forms_for more block))
+        → TakesNoMore rate less more }
     ensures more { (rules : LineRules) (more : Named) (records : List LineByte) (exchanges : List Exchange) (tail : List LineByte)
         → TakesNoMore rules.rate rules.replies more → Cut rules records exchanges tail → Cut (record rules { replies = more }) records exchanges tail }
 {}
@@ -40,7 +46,7 @@ pub fn at_most_one_reason()
         → IsReason rules tail next reason → IsReason rules tail next other → reason ≡ other }
 {}
 
-/// The public limits are those of the definitions, and the time of a byte is eleven bits at 38,400 a second,
+/// The public constants are those of the definitions, and the time of a byte is eleven bits at 38,400 a second,
 /// rounded up.
 pub fn limits()
     ensures byte_time { BYTE_TIME_US ≡ byte_time }
@@ -48,6 +54,7 @@ pub fn limits()
     ensures reply_limit { REPLY_LIMIT_US ≡ reply_limit }
     ensures not_below { 11 * 1000000 ≤ byte_time * 38400 }
     ensures rounded_up { (byte_time - 1) * 38400 < 11 * 1000000 }
+    ensures time_sense { TIME_SENSE ≡ time_sense }
 {}
 
 /// Each public bit of a NAK is the one that the definitions give its name.

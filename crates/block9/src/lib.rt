@@ -35,7 +35,7 @@ pub use open::Open;
 pub use pairer::{Pairer, Step};
 pub use reason::Reason;
 pub use refusal::Refusal;
-pub use replies::{NamedReplies, ReplyForm};
+pub use replies::{NamedReplies, ReplyForm, TIME_SENSE, time_sense_with};
 pub use reply::reply_time_valid_at;
 
 /// The time that a byte takes on the line, in microseconds: eleven bits at 38,400 a second, rounded up.

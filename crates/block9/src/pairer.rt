@@ -50,11 +50,12 @@ impl<'a> Model for Pairer<'a> {
     ghost use Rattle.block9.specs.Pairer.{Paired};
     ghost use Rattle.block9.specs.Working.Inside.{IsInside, completed, last_fed};
     ghost use Rattle.std.specs.Coded.{codes};
-    ghost use Rattle.block9.specs.Working.Codes.{table_code};
+    ghost use Rattle.smallvec.specs.SmallVec.{small_vec_code};
+    ghost use Rattle.std_collections.specs.Layout.BTreeMap.{btree_map_code};
 
     ghost Value = { Paired };
 
-    ghost coded = { Prim.hlevel (codes, table_code) };
+    ghost coded = { Prim.hlevel (codes, btree_map_code, small_vec_code) };
 
     ghost view = { λ p. record {
       rules = p.rules;

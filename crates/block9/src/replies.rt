@@ -1,6 +1,6 @@
 //! The replies that are named for a deck's commands, beside those of the tables.
 ghost use Rattle.std.specs.Prelude.{◌≡◌};
-ghost use Rattle.block9.specs.Replies.{has_form, has_some_form};
+ghost use Rattle.block9.specs.Replies.{has_form, has_some_form, time_sense_with};
 
 use crate::block::Block;
 use crate::command::Command;
@@ -32,27 +32,28 @@ impl ReplyForm {
     }
 }
 
-/// The forms of reply that are named for commands, by the first two bytes of the command's block as one number; or none are.
+/// The forms of reply that are named for commands, by the first two bytes of the command's block as one number, or, for a selector of
+/// CURRENT TIME SENSE, by the first three; or none are.
 #[derive(Drop)]
 pub struct NamedReplies<'a>(Option<&'a BTreeMap<u32, SmallVec<ReplyForm, 4>>>);
 
 impl<'a> Model for NamedReplies<'a> {
     ghost use Rattle.std.specs.Prelude.{option_map};
-    ghost use Rattle.std.specs.Coded.{coded_option};
+    ghost use Rattle.std.specs.Coded.{codes};
     ghost use Rattle.block9.specs.Replies.{Named};
-    ghost use Rattle.block9.specs.Working.Codes.{table_code};
+    ghost use Rattle.smallvec.specs.SmallVec.{small_vec_code};
+    ghost use Rattle.std_collections.specs.Layout.BTreeMap.{btree_map_code};
 
     ghost Value = { Named };
 
-    ghost coded = { coded_option table_code };
+    ghost coded = { Prim.hlevel (codes, btree_map_code, small_vec_code) };
 
     ghost view = { λ n. option_map (λ m. m.now) n.0 };
 }
 
 impl<'a> NamedReplies<'a> {
     ghost use Rattle.std.specs.Prelude.{◌≡◌, None, option_map};
-    ghost use Rattle.block9.specs.Block.{head_of};
-    ghost use Rattle.block9.specs.Replies.{forms_for, takes, takes_besides};
+    ghost use Rattle.block9.specs.Replies.{forms_at, forms_for, takes, takes_besides};
 
     /// No reply is named for any command.
     pub fn none() -> NamedReplies<'a>
@@ -69,34 +70,59 @@ impl<'a> NamedReplies<'a> {
     }
 
     /// Whether a command with this block takes a reply: one of its own, or one of those that are named for it; where none are, a
-    /// command that is not listed takes any.
+    /// command that is not listed takes any. What is named for a selector of CURRENT TIME SENSE takes the place of what is named
+    /// for the command.
     #[inline(always)] // it is asked of every exchange
     pub fn takes(&self, block: &Block, command: &Command, reply: &Block) -> bool
-        ensures { result ≡ takes self.now (head_of block.now) command.now reply.now }
+        ensures { result ≡ takes self.now block.now command.now reply.now }
     {
-        command.is_own(reply) || self.takes_besides(block.head(), command, reply)
+        command.is_own(reply) || self.takes_besides(block, command, reply)
     }
 
-    /// Whether a command, whose block has these first two bytes, takes a reply that is none of its own.
+    /// Whether a command with this block takes a reply that is none of its own.
     #[inline(never)] // as few exchanges have such a reply
-    fn takes_besides(&self, head: u32, command: &Command, reply: &Block) -> bool
-        ensures { result ≡ takes_besides (forms_for self.now head) command.now reply.now }
+    fn takes_besides(&self, block: &Block, command: &Command, reply: &Block) -> bool
+        ensures { result ≡ takes_besides (forms_for self.now block.now) command.now reply.now }
     {
-        match self.forms_for(head) {
+        match self.forms_for(block) {
             Some(forms) => has_some_form(forms, reply),
             None => command.fits(reply),
         }
     }
 
-    /// The forms that are named for the command with these first two bytes, if some are.
-    fn forms_for(&self, head: u32) -> Option<&[ReplyForm]>
-        ensures { option_map (λ forms. forms.now) result ≡ forms_for self.now head }
+    /// The forms that are named for the command of a block, if some are.
+    fn forms_for(&self, block: &Block) -> Option<&[ReplyForm]>
+        ensures { option_map (λ forms. forms.now) result ≡ forms_for self.now block.now }
     {
-        match self.0?.get(&head) {
+        let head = block.head();
+        if head == TIME_SENSE {
+            let selected = time_sense_with(block.first_datum());
+            if let Some(forms) = self.forms_at(selected) {
+                return Some(forms);
+            }
+        }
+        self.forms_at(head)
+    }
+
+    /// The forms that are named for these bytes, if some are.
+    fn forms_at(&self, bytes: u32) -> Option<&[ReplyForm]>
+        ensures { option_map (λ forms. forms.now) result ≡ forms_at self.now bytes }
+    {
+        match self.0?.get(&bytes) {
             Some(forms) => Some(forms.as_slice()),
             None => None,
         }
     }
+}
+
+/// The first two bytes of CURRENT TIME SENSE as one number. Its data byte is a selector: which of the deck's times it asks for.
+pub const TIME_SENSE: u32 = 0x61_0C;
+
+/// These two bytes and a selector as one number: 0x610C03 for `61 0C 03`.
+pub fn time_sense_with(selector: u8) -> u32
+    ensures { result ≡ time_sense_with selector }
+{
+    TIME_SENSE * 256 + u32::from(selector)
 }
 
 /// Whether a reply is of one of these forms.

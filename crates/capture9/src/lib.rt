@@ -18,5 +18,5 @@ mod shown_field;
 pub use crate::capture::{Capture, read_capture};
 pub use crate::error::{CaptureError, CaptureKind};
 pub use crate::line_byte::{LineByte, Wire};
-pub use crate::records::{GREATEST_LIMIT, MOST_ROWS, Records};
+pub use crate::records::{GREATEST_LIMIT, MOST_ROWS, Records, read_fields};
 pub use crate::shown_field::ShownField;

@@ -1,7 +1,8 @@
 //! The records of a text, one at a time.
 
-ghost use Rattle.std.specs.Prelude.{◌≡◌, ◌≢◌, ℕ, Err, ◌+◌, ◌≤◌, ◌↔◌, true, false, IfErr, IfNone, IfOk, IfSome, IsTrue, MatchBool, OnErr, OnOk, option_map};
-ghost use Rattle.csv.specs.Reading.{error_kind};
+ghost use Rattle.std.specs.Prelude.{◌≡◌, ◌≢◌, ◌⊎◌, ℕ, Err, ◌+◌, ◌≤◌, ◌↔◌, true, false, IfErr, IfNone, IfOk, IfSome, IsTrue, MatchBool, OnErr, OnOk, option_map};
+ghost use Rattle.csv.specs.Reading.{ReadRecord, Ready, error_kind, is_flexible, reader_trim, took_first};
+ghost use Rattle.csv.specs.declared.reader.Trim.TheVariants as untrimmed;
 ghost use Rattle.csv.specs.Records.{fields_of};
 ghost use Rattle.csv.specs.declared.error.ErrorKind.TheVariants.{OutOfMemory};
 ghost use Rattle.capture9.specs.Error.{is_of_text};
@@ -234,6 +235,7 @@ fn is_before_header(stage: &Stage) -> bool
 }
 
 /// Reads the next CSV record into `row`, and answers whether there was one.
+#[inline(always)] // it does no more than `read_fields`
 fn read_record<R: Read + Drop>(
     reader: &mut Reader<R>,
     row: &mut ByteRecord,
@@ -243,6 +245,25 @@ fn read_record<R: Read + Drop>(
     ensures next { IfOk result (λ found. IfSome (unread_records R.remaining reader.old)
         (λ unread. TakesFields unread found (fields_of row.new) (unread_records R.remaining reader.new))) }
     ensures refused { IfErr result (λ k. is_of_text k ≡ false) }
+{
+    read_fields(reader, row)
+}
+
+/// Reads the next CSV record of any table into `row`, as `csv` does, and answers whether there was one. An error is `OutOfMemory` where
+/// memory is refused, and else `Read`.
+///
+/// A program that reads other tables beside captures reads their rows by this too, with a reader of the same type. Then `csv` has one
+/// caller, in which it is inlined.
+#[inline(never)] // so that it stands once, and not in each loop over records
+pub fn read_fields<R: Read + Drop>(
+    reader: &mut Reader<R>,
+    row: &mut ByteRecord,
+) -> Result<bool, CaptureKind>
+    ensures reads { IfOk result (λ found. (reader_trim reader.old ≡ untrimmed.None) → Ready reader.old
+        → ReadRecord R.remaining reader.old reader.new found (fields_of row.new)) }
+    ensures ready { (reader_trim reader.old ≡ untrimmed.None) → OnOk result (took_first reader.new ≡ true) }
+    ensures flexible { OnOk result (is_flexible reader.new ≡ is_flexible reader.old) }
+    ensures refused { IfErr result (λ k. (k ≡ CaptureKind.OutOfMemory) ⊎ (k ≡ CaptureKind.Read)) }
 {
     match reader.read_byte_record(row) {
         Ok(found) => Ok(found),

@@ -11,8 +11,8 @@ use crate::kept::{KeepFault, Kept, Ties};
 use crate::lines::Line;
 use crate::range::{TimeRange, WRONG_RANGE};
 use crate::seconds::read_seconds_with_power;
-use capture9::Wire;
-use csv::{ByteRecord, Error, ErrorKind, Reader, ReaderBuilder, Terminator};
+use capture9::{CaptureKind, Wire, read_fields};
+use csv::{ByteRecord, Reader, ReaderBuilder, Terminator};
 use std::alloc::{AllocError, Global};
 use std::io::{Read, Write};
 
@@ -145,20 +145,20 @@ fn read_row<R: Read + Drop>(
     row: &mut ByteRecord,
 ) -> Result<bool, ConvertFault> {
     for _ in 0..u64::MAX {
-        match rows.read_byte_record(row) {
+        match read_fields(rows, row) {
             Ok(false) => return Ok(false),
             Ok(true) if is_empty_line(row) => {}
             Ok(true) => return Ok(true),
-            Err(e) => return Err(fault_of(&e)),
+            Err(kind) => return Err(fault_of(kind)),
         }
     }
     Ok(false)
 }
 
 /// What an error of reading rows comes to.
-fn fault_of(e: &Error) -> ConvertFault {
-    match e.kind() {
-        ErrorKind::OutOfMemory => ConvertFault::OutOfMemory,
+fn fault_of(kind: CaptureKind) -> ConvertFault {
+    match kind {
+        CaptureKind::OutOfMemory => ConvertFault::OutOfMemory,
         _ => ConvertFault::Read,
     }
 }

@@ -1,9 +1,8 @@
 -- A deck that forgets no more and passes through no more modes has no more runs.
-use Rattle.deck9.proofs.Words.{[], arith, arrives, Block, Command, Deck, DeckStep, done, Drift, Exchange, halts, handled, HasRun, ignored, IsRunFrom, IsState, List, Move}
+use Rattle.deck9.proofs.Words.{[], arith, arrives, Block, Command, Deck, DeckStep, done, Drift, Ends, Exchange, halts, handled, HasRun, ignored, IsRunFrom, IsState, List, Move}
 use Rattle.deck9.proofs.Words.{Moves, Option, passes, Profile, refused, State, ◌∷◌}
 use Rattle.deck9.proofs.Words.{Bool, false, Forgets, ForgetsNoMore, forgotten_beside, forgotten_with, head_of, is_nak, true, if◌then◌else◌, Nothing, forgetting}
 use Rattle.deck9.proofs.Words.{Does, Effect, effect_of, Forgotten, ModeSet, Motion, None, Sense, sense_of, Some, unlisted_effect, ℕ}
-use Rattle.block9.specs.declared.command.Command.TheVariants as Command
 use Rattle.deck9.specs.declared.sense.Sense.TheVariants as sense
 use Rattle.deck9.specs.Deck.{named_beside, unless_sensed}
 use Rattle.deck9.specs.Laws.{DoesNoMore, IsNoMore, PassesNoMore, SaysNoMore}
@@ -52,6 +51,15 @@ module _ (p : Profile) (less more : Option Deck) (forgets : ForgetsNoMore p less
 
   pub no_more_runs : (es : List Exchange) → HasRun (with_deck less) es → HasRun (with_deck more) es
   no_more_runs es r = record { first = r.first; is_first = r.is_first; after = r.after; is_run = runs_more es r.first r.after r.is_first.0 r.is_run }
+
+  pub no_more_ends : (es : List Exchange) (t : State) → Ends (with_deck less) es t → Ends (with_deck more) es t
+  no_more_ends es t r = record {
+    first = r.first;
+    is_first = r.is_first;
+    after = r.after;
+    is_run = runs_more es r.first r.after r.is_first.0 r.is_run;
+    is_last = r.is_last;
+  }
 
 -- ---- in a sheet's own words
 

@@ -44,9 +44,9 @@ pub struct Deck {
     pub ways: [ModeSet; 10],
     /// The names of commands that are not listed, in ASCII, by the first two bytes of the command's block as one number.
     pub names: BTreeMap<u32, ArrayVec<u8, 24>>,
-    /// The forms of reply that it gives to commands, by the first two bytes of the command's block as one number: beside the
-    /// replies of the tables to one that is listed, and beside a NAK to one that is not. A command that is not listed and not
-    /// named here takes any reply.
+    /// The forms of reply that it gives to commands, by the first two bytes of the command's block as one number, or, for a selector of
+    /// CURRENT TIME SENSE, by the first three: beside the replies of the tables to one that is listed, and beside a NAK to one that
+    /// is not. A command that is not listed and not named here takes any reply.
     pub replies: BTreeMap<u32, SmallVec<ReplyForm, 4>>,
 }
 

@@ -61,10 +61,12 @@ pub fn hands_explain_no_less()
 {}
 
 /// A deck at which each command does no more than at another, beside which no more is forgotten, and that has no more modes on the
-/// way to each goal, has a run only where the other has one.
+/// way to each goal, has a run only where the other has one, and each state in which its runs end is one in which runs of the other do.
 pub fn a_sheet_that_forgets_less()
-    ensures { (p : Profile) (less more : Option ADeck) (es : List Exchange) → ForgetsNoMore p less more → PassesNoMore less more
+    ensures runs { (p : Profile) (less more : Option ADeck) (es : List Exchange) → ForgetsNoMore p less more → PassesNoMore less more
         → HasRun (record p { deck = less }) es → HasRun (record p { deck = more }) es }
+    ensures ends { (p : Profile) (less more : Option ADeck) (es : List Exchange) (t : State) → ForgetsNoMore p less more → PassesNoMore less more
+        → Ends (record p { deck = less }) es t → Ends (record p { deck = more }) es t }
 {}
 
 /// In a sheet's own words: nothing is at most motion, that at most tape, that at most everything, and registers are at most tape; fewer

@@ -1,5 +1,5 @@
 -- Where no reply is late, records that keep the rules with the limit left aside keep them where it counts.
-use Rattle.judge9.proofs.Words.{[], ap, append-nil, append_assoc, AreEvents, arith, BeginsLate, cases_lt, counting, Cut, cut_once, Does, Event, events_by, Exchange, exchanges_after}
+use Rattle.judge9.proofs.Words.{[], ap, append-nil, append_assoc, AreOutcomes, arith, BeginsLate, cases_lt, counting, Cut, cut_once, Does, Event, events_by, Exchange, exchanges_after}
 use Rattle.judge9.proofs.Words.{in_parts, inl, inr, IsExchange, IsTail, last_time, late_replies, length, line_rules, LineByte, List, Outcome, Profile, refl, sym, tail_after}
 use Rattle.judge9.proofs.Words.{ℕ, ◌++◌, ◌+◌, ◌∙◌, ◌∷◌, ◌≡◌}
 use Rattle.block9.proofs.LineLemmas.{whole_long, whole_parts}
@@ -59,7 +59,7 @@ module _ (profile : Profile) where
 
   -- the records are cut alike
   cut_in_time : (past : ℕ) (p : List LineByte) (es : List Exchange) (t records : List LineByte) (events : List Event) → Cut (line_rules (in_parts profile)) p es t
-      → Cut (line_rules (counting profile)) p es t → AreEvents (line_rules (in_parts profile)) past es t records events → late_replies events ≡ 0
+      → Cut (line_rules (counting profile)) p es t → AreOutcomes (line_rules (in_parts profile)) past es t records events → late_replies events ≡ 0
       → (ends : List Exchange) × (tail : List LineByte) × Cut (line_rules (in_parts profile)) (p ++ records) ends tail × Cut (line_rules (counting profile)) (p ++ records) ends tail
   cut_in_time past p es t [] events aside cut are none = (es, t, rw append-nil aside, rw append-nil cut)
   cut_in_time past p es t (r ∷ records) events aside cut (o, more, done, are, is) none =
@@ -69,7 +69,7 @@ module _ (profile : Profile) where
       (cut-step (line_rules (in_parts profile)) p es t r o aside done) (cut-step (line_rules (counting profile)) p es t r o cut counts) are (omega (arith, count)))
 
   pub cut_counts_all : (past : ℕ) (records : List LineByte) (es : List Exchange) (t : List LineByte) (events : List Event)
-      → Cut (line_rules (in_parts profile)) records es t → AreEvents (line_rules (in_parts profile)) past [] [] records events → late_replies events ≡ 0
+      → Cut (line_rules (in_parts profile)) records es t → AreOutcomes (line_rules (in_parts profile)) past [] [] records events → late_replies events ≡ 0
       → Cut (line_rules (counting profile)) records es t
   cut_counts_all past records es t events cut are none =
       let m = cut_in_time past [] [] [] records events (refl, IsTail.nothing refl) (refl, IsTail.nothing refl) are none in

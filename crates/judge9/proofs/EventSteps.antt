@@ -1,5 +1,5 @@
 -- What is told of the records of a part, with one record more.
-use Rattle.judge9.proofs.Words.{[], ap, append-nil, append_assoc, AreEvents, arith, Cut, cut_once, Does, Event, events_by, Exchange, exchanges_after}
+use Rattle.judge9.proofs.Words.{[], ap, append-nil, append_assoc, AreOutcomes, arith, Cut, cut_once, Does, Event, events_by, Exchange, exchanges_after}
 use Rattle.judge9.proofs.Words.{late_replies, length, LineByte, LineRules, List, Outcome, refl, subst, sym, tail_after, ℕ}
 use Rattle.judge9.proofs.Words.{◌++◌, ◌+◌, ◌∙◌, ◌∷◌, ◌≡◌}
 use Rattle.block9.proofs.CutLemmas.{tail_less}
@@ -47,8 +47,8 @@ alone rules records e whole = (records, [], sym (append-nil records), whole, (re
 
 -- of one record more
 pub events_push : (rules : LineRules) (p : List LineByte) (past : ℕ) (es : List Exchange) (tail records : List LineByte) (r : LineByte) (events : List Event)
-    (fs : List Exchange) (now : List LineByte) (o : Outcome) → Cut rules p es tail → Cut rules (p ++ records) fs now → AreEvents rules past es tail records events
-    → Does rules now r o → AreEvents rules past es tail (records ++ r ∷ []) (events ++ events_by (past + length records + 1) fs now r o)
+    (fs : List Exchange) (now : List LineByte) (o : Outcome) → Cut rules p es tail → Cut rules (p ++ records) fs now → AreOutcomes rules past es tail records events
+    → Does rules now r o → AreOutcomes rules past es tail (records ++ r ∷ []) (events ++ events_by (past + length records + 1) fs now r o)
 events_push rules p past es tail [] r events fs now o cut all are done =
     let same = cut_once rules p es fs tail now cut (rw append-nil at all) in
     let at : past + 0 + 1 ≡ past + 1 = omega arith in
@@ -91,7 +91,7 @@ does_once rules t r (Outcome.completes e) (Outcome.completes f) h k =
 
 -- what is told of records
 pub events_once : (rules : LineRules) (past : ℕ) (es : List Exchange) (tail records : List LineByte) (some others : List Event)
-    → AreEvents rules past es tail records some → AreEvents rules past es tail records others → some ≡ others
+    → AreOutcomes rules past es tail records some → AreOutcomes rules past es tail records others → some ≡ others
 events_once rules past es tail [] some others h k = h ∙ sym k
 events_once rules past es tail (r ∷ records) some others (o, more, done, are, is) (p, rest, does, also, same) =
     let once = does_once rules tail r o p done does in

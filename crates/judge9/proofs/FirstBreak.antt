@@ -1,6 +1,6 @@
 -- The first break of a capture whose parts are judged with the limit left aside is the one at which its judging would end where it
 -- counts.
-use Rattle.judge9.proofs.Words.{[], ap, append-nil, append_assoc, AreEvents, AreParts, arith, BeginsLate, Bool, Breaks, BrokenPart, counting, Cut, cut_parted, Does, Event}
+use Rattle.judge9.proofs.Words.{[], ap, append-nil, append_assoc, AreEvents, AreOutcomes, AreParts, arith, BeginsLate, besides_by, Bool, Breaks, BrokenPart, counting, Cut, cut_parted, Does, Event}
 use Rattle.judge9.proofs.Words.{events_by, Exchange, exchanges_after, false, HasRun, if◌then◌else◌, in_parts, IsFirstBreak, IsPart}
 use Rattle.judge9.proofs.Words.{IsTail, late_replies, length, line_rules, LineByte, List, number_of, Outcome, pairing, Part, Profile, Reason}
 use Rattle.judge9.proofs.Words.{refl, Rest, Some, subst, sym, tail_after, tail_by_kept, TellsLate, true, ℕ, ◌++◌, ◌+◌, ◌∙◌, ◌∷◌, ◌≡◌}
@@ -12,10 +12,13 @@ use Rattle.std.proofs.lemmas.Bool.Decides.{nat_tests}
 use Rattle.judge9.specs.Parts.Event.{exchange, late_reply}
 use Rattle.judge9.proofs.CountingSteps.{cut_counts_all, late_aside, soon_now}
 use Rattle.judge9.proofs.CutSteps.{cut-step}
+use Rattle.judge9.proofs.EventSteps.{late_joined}
 use Rattle.judge9.proofs.LawLemmas.{cut_tail, first_of, tail_breaks}
 use Rattle.judge9.proofs.RetimedSteps.{break_retimed, next_of}
 use Rattle.judge9.proofs.RetimedRecords.{retimed_same}
 use Rattle.judge9.proofs.RunSteps.{run_less}
+use Rattle.judge9.proofs.Told.{break_told, outcomes_of}
+use Rattle.std.specs.Prelude.{◌==◌}
 
 module _ (profile : Profile) where
   -- ---- a late reply
@@ -42,7 +45,7 @@ module _ (profile : Profile) where
   abbrev FoundLate : List LineByte → ℕ → List Exchange → List LineByte → List LineByte → List Event → ℕ → List LineByte → LineByte → Type 0
   FoundLate p past es t records front at asked r =
       (q : List LineByte) × (rest : List LineByte) × (fs : List Exchange) × (records ≡ q ++ r ∷ rest) × Cut (line_rules (in_parts profile)) (p ++ q) fs asked
-      × AreEvents (line_rules (in_parts profile)) past es t q front × (at ≡ past + length q + 1) × BeginsLate (line_rules (in_parts profile)) asked r
+      × AreOutcomes (line_rules (in_parts profile)) past es t q front × (at ≡ past + length q + 1) × BeginsLate (line_rules (in_parts profile)) asked r
 
   -- behind one record more
   behind : (p : List LineByte) (past : ℕ) (es : List Exchange) (t : List LineByte) (x : LineByte) (records : List LineByte) (front : List Event) (at : ℕ) (asked : List LineByte)
@@ -61,7 +64,7 @@ module _ (profile : Profile) where
   )
 
   find_late : (p : List LineByte) (past : ℕ) (es : List Exchange) (t records : List LineByte) (events front more : List Event) (at : ℕ) (asked : List LineByte) (r : LineByte)
-      → Cut (line_rules (in_parts profile)) p es t → AreEvents (line_rules (in_parts profile)) past es t records events
+      → Cut (line_rules (in_parts profile)) p es t → AreOutcomes (line_rules (in_parts profile)) past es t records events
       → events ≡ front ++ late_reply at asked r ∷ more → late_replies front ≡ 0 → FoundLate p past es t records front at asked r
   find_late p past es t [] events [] more at asked r cut are split none = absurd (let e = sym are ∙ split in cc)
   find_late p past es t [] events (f ∷ front) more at asked r cut are split none = absurd (let e = sym are ∙ split in cc)
@@ -90,9 +93,9 @@ module _ (profile : Profile) where
   -- a late reply of the first part, before which none is late
   pub first_late : (items after : List LineByte) (part : Part) (front more : List Event) (at : ℕ) (asked : List LineByte) (r : LineByte) → items ≡ part.records ++ after
       → part.past ≡ 0 → IsPart (in_parts profile) part → part.events ≡ front ++ late_reply at asked r ∷ more → late_replies front ≡ 0
-      → IsFirstBreak (counting profile) items at Reason.LateReply
+      → IsFirstBreak (counting profile) 0 items at Reason.LateReply
   first_late items after part front more at asked r whole start is split none =
-      let found = find_late [] part.past [] [] part.records part.events front more at asked r (refl, IsTail.nothing refl) is.are_events split none in
+      let found = find_late [] part.past [] [] part.records part.events front more at asked r (refl, IsTail.nothing refl) (outcomes_of is) split none in
       let cut = cut_parted (line_rules (in_parts profile)) found.0 found.2 part.exchanges asked (r ∷ found.1) part.tail found.4 (rw found.3 at is.cut) in
       let run : HasRun profile found.2 = first_of (HasRun profile) (run_less profile) cut.0 found.2 (rw cut.1 at is.run) in
       record {
@@ -108,36 +111,42 @@ module _ (profile : Profile) where
 
   -- the reason of the first break
   abbrev pub reason_told : BrokenPart → Reason
-  reason_told b = if b.late then Reason.LateReply else b.reason
+  reason_told b = if late_replies b.events == 0 then b.reason else Reason.LateReply
 
   -- a part of which no reply is late breaks there
   pub breaks_in_time : (b : BrokenPart) → IsPart (in_parts profile) b.part → Breaks (in_parts profile) b.part.records b.breaking b.reason
-      → TellsLate (line_rules (in_parts profile)) b.part.tail b.breaking b.late → late_replies b.part.events ≡ 0 → Breaks (counting profile) b.part.records b.breaking (reason_told b)
-  breaks_in_time b part breaks tells none = by b.late tells
+      → AreEvents (in_parts profile) b.part.past [] (b.part.records ++ b.breaking ∷ []) b.events → late_replies b.part.events ≡ 0 → Breaks (counting profile) b.part.records b.breaking (reason_told b)
+  breaks_in_time b part breaks told none = let (late, tells, same) = break_told b.part b.breaking part breaks.not_ok b.events told in by late tells same
     where
       p : List LineByte
       p = b.part.records
 
       cut : Cut (line_rules (counting profile)) p b.part.exchanges b.part.tail
-      cut = cut_counts_all profile b.part.past p b.part.exchanges b.part.tail b.part.events part.cut part.are_events none
+      cut = cut_counts_all profile b.part.past p b.part.exchanges b.part.tail b.part.events part.cut (outcomes_of part) none
 
-      by : (late : Bool) → TellsLate (line_rules (in_parts profile)) b.part.tail b.breaking late
-          → Breaks (counting profile) p b.breaking (if late then Reason.LateReply else b.reason)
-      by true late = late_breaks p b.part.exchanges b.part.tail b.breaking cut part.run late
-      by false early =
+      told_as : (n : ℕ) → late_replies b.events ≡ n → Breaks (counting profile) p b.breaking (if n == 0 then b.reason else Reason.LateReply)
+          → Breaks (counting profile) p b.breaking (reason_told b)
+      told_as n count is = subst (λ (m : ℕ). Breaks (counting profile) p b.breaking (if m == 0 then b.reason else Reason.LateReply)) (sym count) is
+
+      by : (late : Bool) → TellsLate (line_rules (in_parts profile)) b.part.tail b.breaking late → b.events ≡ b.part.events ++ besides_by (b.part.past + length b.part.records + 1) b.part.tail b.breaking late
+          → Breaks (counting profile) p b.breaking (reason_told b)
+      by true late same =
+          told_as 1 (omega (arith, none, ap late_replies same, late_joined b.part.events (late_reply (b.part.past + length b.part.records + 1) b.part.tail b.breaking ∷ [])))
+          (late_breaks p b.part.exchanges b.part.tail b.breaking cut part.run late)
+      by false early same =
           let t = b.part.tail in
-          break_retimed profile Counts p b.part.exchanges t p b.part.exchanges t b.breaking b.breaking b.reason part.cut cut refl
+          told_as 0 (omega (arith, none, ap late_replies same, late_joined b.part.events [])) (break_retimed profile Counts p b.part.exchanges t p b.part.exchanges t b.breaking b.breaking b.reason part.cut cut refl
           (next_of t t b.breaking b.breaking refl (retimed_same (t ++ b.breaking ∷ []))) (soon_now profile t b.breaking (cut_tail (line_rules (counting profile)) p b.part.exchanges t cut) early)
-          (λ late. early (late_aside profile t b.breaking late.1)) breaks
+          (λ late. early (late_aside profile t b.breaking late.1)) breaks)
 
   pub first_break : (items : List LineByte) (b : BrokenPart) (broken : List BrokenPart) (left : Rest)
       → AreParts (in_parts profile) (record { past = 0; records = items }) (b ∷ broken) left → late_replies b.part.events ≡ 0
-      → IsFirstBreak (counting profile) items (number_of b) (reason_told b)
-  first_break items b broken left (after, same, part, breaks, tells, others) none = record {
+      → IsFirstBreak (counting profile) 0 items (number_of b) (reason_told b)
+  first_break items b broken left (after, same, part, breaks, told, others) none = record {
     before = b.part.records;
     next = b.breaking;
     after = after;
     split = ap (λ (x : Rest). x.records) same;
     number = let start : 0 ≡ b.part.past = ap (λ (x : Rest). x.past) same in omega arith;
-    breaks = breaks_in_time b part breaks tells none;
+    breaks = breaks_in_time b part breaks told none;
   }

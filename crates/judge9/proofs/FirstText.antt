@@ -1,11 +1,12 @@
 -- What was written is a first part of the whole text of the report.
-use Rattle.judge9.proofs.Words.{[], ap, append-nil, append_assoc, Appends, AppendsPart, AreEvents, AreParts, AreTextsOf, arith, Beginning, BrokenPart, by_verdict, counting, Ending, Err, Event, events_in, Extent, false, false≢true}
+use Rattle.judge9.proofs.Words.{[], ap, append-nil, append_assoc, Appends, AppendsPart, AreOutcomes, AreParts, AreTextsOf, arith, Beginning, BrokenPart, by_verdict, counting, Ending, Err, Event, Extent}
 use Rattle.judge9.proofs.Words.{first_part, History, inl, inr, IsEnding, IsEndingOf, IsEventText, IsPart, IsPartText, IsText, IsToFirstBreak, IsToTheEnd, JudgeError, judged_from, last_line, length, length-append, line_of, line_rules}
 use Rattle.judge9.proofs.Words.{LineByte, List, nil_from_length, None, Ok, Option, Part, Profile, refl, Rest, rest_after, Result, Rows, Some, subst, sym, take-length, Told, told_in, ToldSoFar, Verdict, View, Written, ℕ, ◌++◌, ◌+◌, ◌∙◌, ◌∷◌, ◌≡◌, ◌⊎◌}
 use Rattle.capture9.specs.declared.error.CaptureError.{CaptureError}
 use Rattle.judge9.proofs.LawLemmas.{no_longer, part_ok, shorter}
 use Rattle.judge9.proofs.PartLaws.{first_no, none_breaks, one_first, same_part}
 use Rattle.judge9.proofs.PartSteps.{judged_more}
+use Rattle.judge9.proofs.Told.{outcomes_of, told_counting}
 use Rattle.judge9.proofs.TextLemmas.{break_text_once, events_start, part_given, texts_once, texts_start}
 use Rattle.judge9.proofs.Verdicts.{judged_broken, judged_part, up_to_break}
 
@@ -32,8 +33,8 @@ module _ (view : View) (beginning : Beginning) (profile : Profile) (rows : Rows)
   abbrev IsBroken : BrokenPart → Type 0
   IsBroken b = (left : Rest) × AreParts (counting profile) all (b ∷ []) left
 
-  events_before : (b : BrokenPart) → b.late ≡ false → events_in b ≡ b.part.events
-  events_before b none = rw none (append-nil b.part.events)
+  events_before : (b : BrokenPart) → IsBroken b → b.events ≡ b.part.events
+  events_before b (left, parts) = told_counting b.part b.breaking parts.2 parts.3.not_ok refl b.events parts.4
 
   -- what is told of first records begins what is told of those, and so does its text
   begins : (part other : Part) (more : List LineByte) (text whole : List ℕ) → IsFirstPart part → IsPart (counting profile) other → all.past ≡ other.past
@@ -50,8 +51,8 @@ module _ (view : View) (beginning : Beginning) (profile : Profile) (rows : Rows)
         )
     | inr (rest, same) ↦
         let start : part.past ≡ other.past = sym (ap (λ (r : Rest). r.past) same) ∙ past in
-        let told : AreEvents (line_rules (counting profile)) other.past [] [] part.records part.events = rw start at first.is_part.are_events in
-        let events = events_start (line_rules (counting profile)) other.past [] [] part.records more part.events other.events told (rw split at is.are_events) in
+        let told : AreOutcomes (line_rules (counting profile)) other.past [] [] part.records part.events = rw start at (outcomes_of first.is_part) in
+        let events = events_start (line_rules (counting profile)) other.past [] [] part.records more part.events other.events told (rw split at (outcomes_of is)) in
         let texts = texts_start view (counting profile) part.events events.0 text whole (part_given profile part first.is_part) a (rw events.1 at b) in
         (texts.0, texts.1, λ none. texts.2 (events.2 none))
   ]
@@ -66,7 +67,7 @@ module _ (view : View) (beginning : Beginning) (profile : Profile) (rows : Rows)
     events_told : told_in h ≡ h.part.events
     events_told = elim t.is_history.besides [
       | inl none ↦ ap (λ l. h.part.events ++ l) none ∙ append-nil h.part.events
-      | inr late ↦ absurd (false≢true (sym late.3))
+      | inr (r, after, split, reason, breaks, are) ↦ told_counting h.part r t.is_history.is_part breaks.not_ok refl (told_in h) are
     ]
 
     module _ (none : h.broken ≡ []) where
@@ -172,7 +173,7 @@ module _ (view : View) (beginning : Beginning) (profile : Profile) (rows : Rows)
             shorter part.records rest b.part.records (b.breaking ∷ parts.0) (sym whole ∙ ap (λ (r : Rest). r.records) parts.1)
             (no_longer (first_no left b [] parts) part.records rest (part_ok first.is_part) whole)
       ] in
-      let on = begins part b.part more.0 text lines first parts.2 (ap (λ (r : Rest). r.past) parts.1) more.1 told (rw (events_before b parts.4) at are) in
+      let on = begins part b.part more.0 text lines first parts.2 (ap (λ (r : Rest). r.past) parts.1) more.1 told (rw (events_before b (left, parts)) at are) in
       (on.0 ++ end, same ∙ ap (λ t. t ++ end) on.1 ∙ append_assoc text on.0 end)
 
   ends_with_yes : (part : Part) (text whole : List ℕ) → IsWholePart part → rows.fault ≡ None → Texts part.events text → Ended whole → whole ≡ text ++ line_of (yes_of part)
@@ -188,8 +189,8 @@ module _ (view : View) (beginning : Beginning) (profile : Profile) (rows : Rows)
   ends_at_break b text whole (left, parts) (lines, end, are, says, same) (inr (c, (remaining, others), also)) =
       let one = one_first left remaining b c [] [] parts others in
       let (all_lines, all_end, all_are, all_says, all_same) = rw (← one.0) at also in
-      let given = rw (sym (events_before b parts.4)) at (part_given profile b.part parts.2) in
-      all_same ∙ ap (λ t. t ++ all_end) (texts_once view (counting profile) (events_in b) lines all_lines given are all_are)
+      let given = rw (sym (events_before b (left, parts))) at (part_given profile b.part parts.2) in
+      all_same ∙ ap (λ t. t ++ all_end) (texts_once view (counting profile) b.events lines all_lines given are all_are)
       ∙ ap (λ t. lines ++ t) (break_text_once view (counting profile) b end all_end parts.2.run says all_says) ∙ sym same
 
 -- ---- what was written

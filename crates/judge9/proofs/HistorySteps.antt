@@ -1,5 +1,5 @@
 -- The history of what was read, and what is counted of it.
-use Rattle.judge9.proofs.Words.{[], ap, append-nil, append_assoc, AreRead, arith, Beginning, BrokenPart, Event, events_in, events_of, exchanges_of, Feed, Fits, GoesOn, greatest_limit, inl}
+use Rattle.judge9.proofs.Words.{[], ap, append-nil, append_assoc, AreRead, arith, Beginning, BrokenPart, Event, events_of, exchanges_of, Feed, Fits, GoesOn, greatest_limit, inl}
 use Rattle.judge9.proofs.Words.{InPart, IsBesides, IsHistory, length, length-append, LineByte, line_rules, List, Option, Part, Progress, records_in, refl, Rows, rows_allowed, sym, Terms}
 use Rattle.judge9.proofs.Words.{WereGiven, ℕ, ◌++◌, ◌∙◌, ◌∷◌, ◌≡◌, ◌≤◌}
 use Rattle.report9.specs.declared.verdict.Extent.TheVariants.{the_data as Extent}
@@ -20,9 +20,9 @@ exchanges_push [] b = append-nil b.part.exchanges
 exchanges_push (x ∷ broken) b = ap (λ l. x.part.exchanges ++ l) (exchanges_push broken b)
     ∙ sym (append_assoc x.part.exchanges (exchanges_of broken) b.part.exchanges)
 
-pub events_push : (broken : List BrokenPart) (b : BrokenPart) → events_of (broken ++ b ∷ []) ≡ events_of broken ++ events_in b
-events_push [] b = append-nil (events_in b)
-events_push (x ∷ broken) b = ap (λ l. events_in x ++ l) (events_push broken b) ∙ sym (append_assoc (events_in x) (events_of broken) (events_in b))
+pub events_push : (broken : List BrokenPart) (b : BrokenPart) → events_of (broken ++ b ∷ []) ≡ events_of broken ++ b.events
+events_push [] b = append-nil b.events
+events_push (x ∷ broken) b = ap (λ l. x.events ++ l) (events_push broken b) ∙ sym (append_assoc (x.events) (events_of broken) b.events)
 
 -- ---- what is counted
 

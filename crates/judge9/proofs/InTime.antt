@@ -1,18 +1,18 @@
 -- Where no record of the deck comes later than the reply limit after one of the controller, no reply is late; and each capture has such times.
-use Rattle.judge9.proofs.Words.{[], ap, AreEvents, AreParts, arith, Bool, BrokenPart, drop, Event, events_in, events_of, Exchange, false, in_parts, IsPart}
-use Rattle.judge9.proofs.Words.{append-nil, append_assoc, besides_of, last_time, late_replies, length, line_rules, LineByte, LineRules, List, Outcome, Part, Profile, refl, Rest, rest_after, subst, sym}
-use Rattle.judge9.proofs.Words.{BeginsLate, if◌then◌else◌, number_of, take, take-append-drop, TellsLate, true, ℕ, ◌++◌, ◌+◌, ◌-◌, ◌<◌, ◌∙◌, ◌∷◌, ◌≡◌, ◌≤◌}
+use Rattle.judge9.proofs.Words.{[], ap, AreEvents, AreOutcomes, AreParts, arith, Bool, Breaks, BrokenPart, drop, Event, events_of, Exchange, false, in_parts, IsPart}
+use Rattle.judge9.proofs.Words.{append-nil, append_assoc, besides_by, last_time, late_replies, length, line_rules, LineByte, LineRules, List, Outcome, Part, Profile, refl, Rest, rest_after, subst, sym}
+use Rattle.judge9.proofs.Words.{BeginsLate, take, take-append-drop, TellsLate, true, ℕ, ◌++◌, ◌+◌, ◌-◌, ◌<◌, ◌∙◌, ◌∷◌, ◌≡◌, ◌≤◌}
 use Rattle.block9.proofs.LineLemmas.{whole_long}
 use Rattle.block9.specs.Line.{IsLinked, reply_limit}
 use Rattle.capture9.specs.declared.line_byte.Wire.{Wire}
 use Rattle.capture9.specs.declared.line_byte.Wire.TheVariants.{Controller, Deck}
 use Rattle.std.proofs.lemmas.List.Sorted.{IsNonDecreasingBy-drop}
 use Rattle.std.specs.List.Sorted.{IsNonDecreasingBy}
-use Rattle.judge9.specs.Parts.Event.{late_reply}
 use Rattle.judge9.specs.Retimed.{AreRetimed, NoneIsLate}
 use Rattle.judge9.proofs.CutSteps.{tail_last}
 use Rattle.judge9.proofs.EventSteps.{late_joined}
 use Rattle.judge9.proofs.PartLaws.{behind, IsRestOf, rest_after_rest}
+use Rattle.judge9.proofs.Told.{break_told, outcomes_of}
 
 -- ---- no reply is late
 
@@ -36,7 +36,7 @@ never_begins rules t r records h late =
     let whole = late.asked.2.whole in
     omega (arith, late.late, never_late t r records h whole.linked (omega (arith, whole_long Controller t late.asked.0 whole)) late.wire)
 
-none_told : (rules : LineRules) (past : ℕ) (es : List Exchange) (t records after : List LineByte) (events : List Event) → AreEvents rules past es t records events
+none_told : (rules : LineRules) (past : ℕ) (es : List Exchange) (t records after : List LineByte) (events : List Event) → AreOutcomes rules past es t records events
     → NoneIsLate (t ++ (records ++ after)) → late_replies events ≡ 0
 none_told rules past es t [] after events are h = rw are refl
 none_told rules past es t (r ∷ records) after events (Outcome.leaves_open, more, done, are, is) h =
@@ -51,13 +51,19 @@ module _ (profile : Profile) (items : List LineByte) (none : NoneIsLate items) w
   none_left : (n : ℕ) → NoneIsLate (drop n items)
   none_left n = none_behind (take n items) (drop n items) (rw take-append-drop none)
 
-  none_besides : (b : BrokenPart) (after : List LineByte) → NoneIsLate (b.part.records ++ b.breaking ∷ after) → IsPart (in_parts profile) b.part
-      → TellsLate (line_rules (in_parts profile)) b.part.tail b.breaking b.late → late_replies (besides_of b) ≡ 0
-  none_besides b after h part tells = by b.late tells
+  none_in_break : (b : BrokenPart) (after : List LineByte) → NoneIsLate (b.part.records ++ b.breaking ∷ after) → IsPart (in_parts profile) b.part
+      → Breaks (in_parts profile) b.part.records b.breaking b.reason → AreEvents (in_parts profile) b.part.past [] (b.part.records ++ b.breaking ∷ []) b.events → late_replies b.events ≡ 0
+  none_in_break b after h part breaks told = let (late, tells, same) = break_told b.part b.breaking part breaks.not_ok b.events told in by late tells same
     where
-      by : (l : Bool) → TellsLate (line_rules (in_parts profile)) b.part.tail b.breaking l → late_replies (if l then late_reply (number_of b) b.part.tail b.breaking ∷ [] else []) ≡ 0
-      by false early = refl
-      by true late =
+      by : (l : Bool) → TellsLate (line_rules (in_parts profile)) b.part.tail b.breaking l → b.events ≡ b.part.events ++ besides_by (b.part.past + length b.part.records + 1) b.part.tail b.breaking l
+          → late_replies b.events ≡ 0
+      by false early same = omega (
+        arith,
+        ap late_replies same,
+        late_joined b.part.events [],
+        none_told (line_rules (in_parts profile)) b.part.past [] [] b.part.records (b.breaking ∷ after) b.part.events (outcomes_of part) h,
+      )
+      by true late same =
           let m = tail_last (line_rules (in_parts profile)) b.part.records b.part.exchanges b.part.tail part.cut in
           absurd (never_begins (line_rules (in_parts profile)) b.part.tail b.breaking after (none_behind m.0 (b.part.tail ++ b.breaking ∷ after) (rw (m.1, append_assoc m.0 b.part.tail (b.breaking ∷ after)) at h)) late)
 
@@ -65,19 +71,17 @@ module _ (profile : Profile) (items : List LineByte) (none : NoneIsLate items) w
       → last.records ≡ left.records → late_replies (events_of broken ++ last.events) ≡ 0
   none_in_parts rest left [] last is same part all =
       let records : last.records ++ [] ≡ drop rest.past items = append-nil last.records ∙ all ∙ ap (λ (x : Rest). x.records) same ∙ is in
-      none_told (line_rules (in_parts profile)) last.past [] [] last.records [] last.events part.are_events (subst NoneIsLate (sym records) (none_left rest.past))
-  none_in_parts rest left (b ∷ broken) last is (after, same, part, breaks, tells, others) end all =
+      none_told (line_rules (in_parts profile)) last.past [] [] last.records [] last.events (outcomes_of part) (subst NoneIsLate (sym records) (none_left rest.past))
+  none_in_parts rest left (b ∷ broken) last is (after, same, part, breaks, told, others) end all =
       let records : b.part.records ++ b.breaking ∷ after ≡ drop b.part.past items = rw same at is in
       let whole = subst NoneIsLate (sym records) (none_left b.part.past) in
       let next = behind items b.part.past b.part.records b.breaking after records in
       let on = rest_after_rest items (b.part.past + length b.part.records) b.reason b.breaking after next.0 next.1 in
       omega (
         arith,
-        none_told (line_rules (in_parts profile)) b.part.past [] [] b.part.records (b.breaking ∷ after) b.part.events part.are_events whole,
-        none_besides b after whole part tells,
+        none_in_break b after whole part breaks told,
         none_in_parts (rest_after (b.part.past + length b.part.records) b.reason b.breaking after) left broken last on others end all,
-        ap late_replies (append_assoc (events_in b) (events_of broken) last.events) ∙ late_joined (events_in b) (events_of broken ++ last.events),
-        late_joined b.part.events (besides_of b),
+        ap late_replies (append_assoc b.events (events_of broken) last.events) ∙ late_joined b.events (events_of broken ++ last.events),
       )
 
 -- ---- a capture at such times

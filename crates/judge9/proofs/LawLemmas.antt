@@ -1,5 +1,5 @@
 -- The laws on lists of records that keep the rules, on answers, on judging with hands, and on reasons.
-use Rattle.judge9.proofs.Words.{Beginning, IsAnswerFrom, judged_rows, moved_by, passed_before, Terms, LineRules, line_rules, counting, [], Answer, ap, append-nil, AreCounts, append_assoc, Applies, arith, Breaks, cases_lt, Cut, cut_once, cut_parted, drop, Exchange, exchange_kept}
+use Rattle.judge9.proofs.Words.{Terms, LineRules, line_rules, counting, [], Answer, ap, append-nil, AreCounts, append_assoc, Applies, arith, Breaks, cases_lt, Cut, cut_once, cut_parted, drop, Exchange, exchange_kept}
 use Rattle.judge9.proofs.Words.{first_before_last, first_holds, first_once, Profile, HasRun, Holds, inl, inr, IsAnswer, IsExchange, IsFirst, IsFirstBreak, IsKept, IsOk, IsPart, IsReason, Part}
 use Rattle.judge9.proofs.Words.{IsTail, kept_by_tail, kept_less, last_is_first, last_time, last_time-append, length, length-append, length_push, LineByte, List, None, Option}
 use Rattle.judge9.proofs.Words.{order, pairing, quiet_kept, rank, rank_low, rank_once, Reason, refl, Rows, same_parts, Some, subst, sym, take, take-append-drop, take-append-le}
@@ -46,10 +46,10 @@ breaks_once terms p r x y b c =
     first_once (Applies terms c.exchanges c.tail r) order x y (rw (same.0, same.1) at b.is_reason) c.is_reason
 
 -- of records with a break those keep the rules that come before it, and no more
-pub is_ok : {terms : Terms} {items : List LineByte} {at : ℕ} {z : Reason} → (b : IsFirstBreak terms items at z) → IsOk terms b.before
+pub is_ok : {terms : Terms} {past : ℕ} {items : List LineByte} {at : ℕ} {z : Reason} → (b : IsFirstBreak terms past items at z) → IsOk terms b.before
 is_ok b = record { exchanges = b.breaks.exchanges; tail = b.breaks.tail; cut = b.breaks.cut; run = b.breaks.run }
 
-pub no_longer : {terms : Terms} {items : List LineByte} {at : ℕ} {z : Reason} → (b : IsFirstBreak terms items at z) (p rest : List LineByte) → IsOk terms p
+pub no_longer : {terms : Terms} {past : ℕ} {items : List LineByte} {at : ℕ} {z : Reason} → (b : IsFirstBreak terms past items at z) (p rest : List LineByte) → IsOk terms p
     → items ≡ p ++ rest → length p ≤ length b.before
 no_longer {terms = terms} b p rest ok split = elim (cases_lt (length b.before) (length p)) [
   | inl more ↦ let longer = shorter (b.before ++ b.next ∷ []) b.after p rest (append_assoc b.before (b.next ∷ []) b.after ∙ sym b.split ∙ split)
@@ -58,40 +58,36 @@ no_longer {terms = terms} b p rest ok split = elim (cases_lt (length b.before) (
   | inr few ↦ few
 ]
 
-pub no_break : (terms : Terms) (items : List LineByte) (at : ℕ) (x : Reason) → IsOk terms items → IsFirstBreak terms items at x → ⊥
-no_break terms items at x ok b = omega (arith, no_longer b items [] ok (sym (append-nil items)), ap length b.split, length-append b.before (b.next ∷ b.after))
+pub no_break : (terms : Terms) (past : ℕ) (items : List LineByte) (at : ℕ) (x : Reason) → IsOk terms items → IsFirstBreak terms past items at x → ⊥
+no_break terms past items at x ok b = omega (arith, no_longer b items [] ok (sym (append-nil items)), ap length b.split, length-append b.before (b.next ∷ b.after))
 
-pub break_once : (terms : Terms) (items : List LineByte) (m n : ℕ) (x y : Reason) → IsFirstBreak terms items m x → IsFirstBreak terms items n y → (m ≡ n) × (x ≡ y)
-break_once terms items m n x y b c =
+pub break_once : (terms : Terms) (past : ℕ) (items : List LineByte) (m n : ℕ) (x y : Reason) → IsFirstBreak terms past items m x → IsFirstBreak terms past items n y
+    → (m ≡ n) × (x ≡ y)
+break_once terms past items m n x y b c =
     let few = no_longer b c.before (c.next ∷ c.after) (is_ok c) c.split in
     let many = no_longer c b.before (b.next ∷ b.after) (is_ok b) b.split in
     let parts = same_parts b.before c.before (b.next ∷ b.after) (c.next ∷ c.after) (omega arith) (sym b.split ∙ c.split) in
     let next : b.next ≡ c.next = let e = parts.1 in cc in
-    (omega (arith, ap length parts.0), breaks_once terms c.before c.next x y (rw (parts.0, next) at b.breaks) c.breaks)
+    (omega (arith, b.number, c.number, ap length parts.0), breaks_once terms c.before c.next x y (rw (parts.0, next) at b.breaks) c.breaks)
 
 -- records that are counted keep the rules
 counts_ok : {terms : Terms} {items : List LineByte} {records exchanges tail : ℕ} → AreCounts terms items records exchanges tail → IsOk terms items
 counts_ok c = record { exchanges = c.cut_exchanges; tail = c.cut_tail; cut = c.cut; run = c.run }
 
 -- one answer at most is right for a text
-pub answer_once : (profile : Profile) (rows : Rows) (a b : Answer) → IsAnswer profile rows a → IsAnswer profile rows b → a ≡ b
-answer_once profile rows (Answer.judged (Verdict.No at x)) (Answer.judged (Verdict.No n y)) i j = let same = break_once (counting profile) rows.records at n x y i j in
+pub answer_once : (profile : Profile) (past : ℕ) (rows : Rows) (a b : Answer) → IsAnswer profile past rows a → IsAnswer profile past rows b → a ≡ b
+answer_once profile past rows (Answer.judged (Verdict.No at x)) (Answer.judged (Verdict.No n y)) i j = let same = break_once (counting profile) past rows.records at n x y i j in
     cc (same.0, same.1)
-answer_once profile rows (Answer.judged (Verdict.No at x)) (Answer.judged (Verdict.Yes s f u)) i j = absurd (no_break (counting profile) rows.records at x (counts_ok j.1) i)
-answer_once profile rows (Answer.judged (Verdict.No at x)) (Answer.unreadable e) i j = absurd (no_break (counting profile) rows.records at x j.1 i)
-answer_once profile rows (Answer.judged (Verdict.Yes r e t)) (Answer.judged (Verdict.No at x)) i j = absurd (no_break (counting profile) rows.records at x (counts_ok i.1) j)
-answer_once profile rows (Answer.unreadable e) (Answer.judged (Verdict.No at x)) i j = absurd (no_break (counting profile) rows.records at x i.1 j)
-answer_once profile rows (Answer.judged (Verdict.Yes r e t)) (Answer.judged (Verdict.Yes s f u)) i j =
+answer_once profile past rows (Answer.judged (Verdict.No at x)) (Answer.judged (Verdict.Yes s f u)) i j = absurd (no_break (counting profile) past rows.records at x (counts_ok j.1) i)
+answer_once profile past rows (Answer.judged (Verdict.No at x)) (Answer.unreadable e) i j = absurd (no_break (counting profile) past rows.records at x j.1 i)
+answer_once profile past rows (Answer.judged (Verdict.Yes r e t)) (Answer.judged (Verdict.No at x)) i j = absurd (no_break (counting profile) past rows.records at x (counts_ok i.1) j)
+answer_once profile past rows (Answer.unreadable e) (Answer.judged (Verdict.No at x)) i j = absurd (no_break (counting profile) past rows.records at x i.1 j)
+answer_once profile past rows (Answer.judged (Verdict.Yes r e t)) (Answer.judged (Verdict.Yes s f u)) i j =
     let same = cut_once (line_rules (counting profile)) rows.records i.1.cut_exchanges j.1.cut_exchanges i.1.cut_tail j.1.cut_tail i.1.cut j.1.cut in
     let counts = i.1 in
     let others = j.1 in
     cc (ap length same.0, ap length same.1)
-answer_once profile rows a b i j = cc (i.0, j.0)
-
--- wherever its judging begins
-pub answer_once_from : (beginning : Beginning) (profile : Profile) (rows : Rows) (a b : Answer) → IsAnswerFrom beginning profile rows a → IsAnswerFrom beginning profile rows b → a ≡ b
-answer_once_from beginning profile rows a b (own, is, moved) (other, be, same) =
-    moved ∙ ap (moved_by (passed_before beginning rows)) (answer_once profile (judged_rows beginning rows) own other is be) ∙ sym same
+answer_once profile past rows a b i j = cc (i.0, j.0)
 
 -- ---- what one deck explains, another explains too that has all its runs and takes all its replies, and no break comes earlier
 
@@ -99,9 +95,9 @@ answer_once_from beginning profile rows a b (own, is, moved) (other, be, same) =
 module _ (p q : Profile)
     (cut : (records : List LineByte) (es : List Exchange) (t : List LineByte) → Cut (line_rules (counting p)) records es t → Cut (line_rules (counting q)) records es t)
     (has : (es : List Exchange) → HasRun p es → HasRun q es) where
-  pub yes_with_more : (rows : Rows) (records exchanges tail : ℕ) → IsAnswer p rows (Answer.judged (Verdict.Yes records exchanges tail))
-      → IsAnswer q rows (Answer.judged (Verdict.Yes records exchanges tail))
-  yes_with_more rows records exchanges tail (whole, c) = (
+  pub yes_with_more : (past : ℕ) (rows : Rows) (records exchanges tail : ℕ) → IsAnswer p past rows (Answer.judged (Verdict.Yes records exchanges tail))
+      → IsAnswer q past rows (Answer.judged (Verdict.Yes records exchanges tail))
+  yes_with_more past rows records exchanges tail (whole, c) = (
     whole,
     record {
       cut_exchanges = c.cut_exchanges;
@@ -114,13 +110,13 @@ module _ (p q : Profile)
     },
   )
 
-  pub no_with_more : (rows : Rows) (at other : ℕ) (reason another : Reason) → IsAnswer p rows (Answer.judged (Verdict.No at reason))
-      → IsAnswer q rows (Answer.judged (Verdict.No other another)) → at ≤ other
-  no_with_more rows at other reason another w v =
+  pub no_with_more : (past : ℕ) (rows : Rows) (at other : ℕ) (reason another : Reason) → IsAnswer p past rows (Answer.judged (Verdict.No at reason))
+      → IsAnswer q past rows (Answer.judged (Verdict.No other another)) → at ≤ other
+  no_with_more past rows at other reason another w v =
       let b = w.breaks in
       let ok : IsOk (counting q) w.before =
       record { exchanges = b.exchanges; tail = b.tail; cut = cut w.before b.exchanges b.tail b.cut; run = has b.exchanges b.run } in
-      omega (arith, no_longer v w.before (w.next ∷ w.after) ok w.split)
+      omega (arith, w.number, v.number, no_longer v w.before (w.next ∷ w.after) ok w.split)
 
 -- ---- which reason a record gets: that of pairing where a rule of pairing is broken, and else that no run remains
 

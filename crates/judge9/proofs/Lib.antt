@@ -1,3 +1,4 @@
+pub mod ByOutcome
 pub mod Coming
 pub mod CountingSteps
 pub mod CutSteps
@@ -30,6 +31,7 @@ pub mod Stepping
 pub mod Taking
 pub mod Texts
 pub mod TextLemmas
+pub mod Told
 pub mod TurnSteps
 pub mod Verdicts
 pub mod WhyOnce

@@ -2,8 +2,8 @@
 use Rattle.block9.proofs.FeedLemmas.{exchange_not_late}
 use Rattle.block9.specs.declared.line_rules.ReplyLimit.{ReplyLimit}
 use Rattle.block9.specs.declared.line_rules.ReplyLimit.TheVariants.{Counts, LeftAside}
-use Rattle.judge9.proofs.Words.{append-nil, Beginning, BeginsLate, Bool, Follower, InPart, IsAtBreak, IsHistory, LineRules, Part, Spoils, Terms, ◌^◌}
-use Rattle.judge9.proofs.Words.{[], Advances, ap, arith, AreCounted, Break, BrokenPart, Err, Event, events_in, events_of, Exchange, exchanges_of, false, Feed, greatest_limit, GrowsBy, History, inl, inr, late_besides, IsMarked, IsSilent}
+use Rattle.judge9.proofs.Words.{append-nil, AreEvents, Beginning, BeginsLate, Bool, Follower, InPart, IsAtBreak, IsHistory, LineRules, Part, Spoils, Terms, ◌^◌}
+use Rattle.judge9.proofs.Words.{[], Advances, ap, arith, AreCounted, Break, BrokenPart, Err, Event, events_of, Exchange, exchanges_of, false, Feed, greatest_limit, GrowsBy, History, inl, inr, late_besides, IsMarked, IsSilent}
 use Rattle.judge9.proofs.Words.{IsWithin, JudgeError, late_replies, left_of, length, length-append, length_push, LineByte, line_rules, List, MarksBreak, Next, Ok, Option, Profile, records_in, records_of, refl, reply_limit_of, Result, Rows, rows_allowed}
 use Rattle.judge9.proofs.Words.{Stands, Stops, subst, sym, TellsBesides, TellsBreak, TellsExchange, TellsLateReply, terms_for, told_in, true, Turn, ℕ, ◌*◌, ◌++◌, ◌+◌, ◌<◌, ◌∙◌, ◌∷◌, ◌≡◌, ◌≢◌, ◌≤◌, ◌⊎◌}
 use Rattle.judge9.specs.declared.judging.Judging.{Judging}
@@ -15,7 +15,8 @@ use Rattle.judge9.proofs.Coming.{Arrives, Came}
 use Rattle.judge9.proofs.EventSteps.{late_joined}
 use Rattle.judge9.proofs.HistorySteps.{allowed, events_push, exchanges_push, fit, given_here, history_at}
 use Rattle.judge9.proofs.LineSteps.{records_joined}
-use Rattle.judge9.proofs.SoFar.{number_on, read_on, step_on}
+use Rattle.judge9.proofs.SoFar.{breaks as breaks_part, number_on, read_on, step_on}
+use Rattle.judge9.proofs.Told.{told_with_break}
 use Rattle.judge9.proofs.Stepping.{ahead_of, behind, end_came, exchange_came, gives_break, history, late_came, reached_behind, refusal_came, stands_behind, tells_break}
 
 -- ---- a late reply besides
@@ -24,6 +25,14 @@ use Rattle.judge9.proofs.Stepping.{ahead_of, behind, end_came, exchange_came, gi
 late_is : (limit : ReplyLimit) {rules : LineRules} {t : List LineByte} {r : LineByte} → TellsBesides limit rules t r true → BeginsLate rules t r
 late_is Counts tells = absurd (cc tells)
 late_is LeftAside tells = tells
+
+aside_is : (limit : ReplyLimit) (rules : LineRules) (t : List LineByte) (r : LineByte) → TellsBesides limit rules t r true → limit ≡ LeftAside
+aside_is Counts rules t r tells = absurd (cc tells)
+aside_is LeftAside rules t r tells = refl
+
+besides_late : (limit : ReplyLimit) {rules : LineRules} {t : List LineByte} {r : LineByte} → limit ≡ LeftAside → BeginsLate rules t r → TellsBesides limit rules t r true
+besides_late Counts aside late = absurd (cc aside)
+besides_late LeftAside aside late = late
 
 -- the record begins one after the tail of its part where its break says so
 late_at : {R : Type 0} {limit : ℕ} {terms : Terms} {rows : Option Rows} {past : List LineByte} {part : Part} {before : Feed R} {after : Follower} {b : Break} (extent : Extent)
@@ -135,7 +144,7 @@ module _ {R : Type 0} {scope : Scope} {profile : Profile} {rows : Option Rows} {
           ap length silent.broken,
           ap (λ l. late_replies (events_of l)) t.broken,
           ap late_replies (events_push front.broken t.part),
-          late_joined (events_of front.broken) (events_in t.part),
+          late_joined (events_of front.broken) t.part.events,
           ap late_replies t.events,
           ap (λ l. late_replies (events_of l)) silent.broken,
           ap late_replies silent.told,
@@ -254,13 +263,15 @@ module _ {R : Type 0} {scope : Scope} {profile : Profile} {rows : Option Rows} {
           exchanges = refl;
           still = λ nil. inr (refl, nil);
         } in
+        let broken = breaks_part a.in_part a.turned.1.took.1 in
+        let told = told_with_break a.part b.record a.in_part.is_part broken.not_ok true both.1 in
         let read = given_here (read_on a.in_part (gives_break a)) in record {
           front = front;
           silent = silent;
           reached = record { is_history = history_at h.broken a.in_part (b.record ∷ []) [] (ahead_of a []) (inl refl); were_given = read };
           next = next;
           tells = rw m.feed tells;
-          now_reached = record { is_history = history_at h.broken a.in_part (b.record ∷ []) one (ahead_of a []) (inr (b.record, [], refl, both.1, refl)); were_given = read };
+          now_reached = record { is_history = history_at h.broken a.in_part (b.record ∷ []) one (ahead_of a []) (inr (b.record, [], refl, b.reason, broken, told)); were_given = read };
           stands = record {
             same_scope = m.scope ∙ s.same_scope;
             same_profile = m.profile ∙ s.same_profile;
@@ -271,7 +282,8 @@ module _ {R : Type 0} {scope : Scope} {profile : Profile} {rows : Option Rows} {
               gives = gives_break a;
               spoils = a.turned.1.took.1;
               items = refl;
-              late = both.1;
+              left_aside = aside_is (reply_limit_of scope.extent) (line_rules (terms_for scope.extent profile)) a.part.tail b.record both.1;
+              late = late_is (reply_limit_of scope.extent) both.1;
               besides = refl;
               on = ahead_of a;
               fits = a.fits;
@@ -320,16 +332,16 @@ told_behind {scope = scope} {profile = profile} {rows = rows} {h = h} {old = old
   silent = silent;
   reached = record {
     is_history = subst (λ (l : List LineByte). IsHistory terms scope.beginning (history l h.broken h.part h.besides)) (sym here.items) (subst (λ (l : List Event). IsHistory terms scope.beginning (history (here.past ++ (h.part.records ++ b.record ∷ [])) h.broken h.part l)) (sym here.besides)
-        (history_at h.broken here.in_part (b.record ∷ []) _ (here.on []) (inr (b.record, [], refl, here.late, refl))));
+        (history_at h.broken here.in_part (b.record ∷ []) _ (here.on []) (inr (b.record, [], refl, b.reason, breaks_part here.in_part here.spoils, told))));
     were_given = rw here.items (given_here (read_on here.in_part here.gives));
   };
   next = behind h.broken here.past h.part b true;
   tells = rw same_feed tells;
-  now_reached = reached_behind scope.beginning h.broken b true here.in_part here.gives here.spoils here.late here.on here.fits;
+  now_reached = reached_behind scope.beginning h.broken b true here.in_part here.gives here.spoils late here.on here.fits;
   stands = record {
     same_scope = same_scope ∙ s.same_scope;
     same_profile = ap (λ p. p.now) same_profile ∙ s.same_profile;
-    at = rw (at, same_feed) (stands_behind scope.beginning h.broken b true here.in_part here.gives here.spoils here.late here.on here.fits);
+    at = rw (at, same_feed) (stands_behind scope.beginning h.broken b true here.in_part here.gives here.spoils late here.on here.fits);
     counted = counted_break s new h (behind h.broken here.past h.part b true) silent tells breaks counts.0 counts.1;
     bound = bounded s new (omega (arith, breaks (omega (arith, s.bound)))) less;
   };
@@ -341,8 +353,14 @@ told_behind {scope = scope} {profile = profile} {rows = rows} {h = h} {old = old
     here : IsAtBreak (rows_allowed scope.extent) (terms_for scope.extent profile) scope.beginning rows h b old.feed
     here = rw was at s.at
 
+    late : TellsBesides (reply_limit_of scope.extent) (line_rules terms) h.part.tail b.record true
+    late = besides_late (reply_limit_of scope.extent) here.left_aside here.late
+
+    told : AreEvents terms h.part.past [] (h.part.records ++ b.record ∷ []) (h.part.events ++ late_reply (h.part.past + length h.part.records + 1) h.part.tail b.record ∷ [])
+    told = told_with_break h.part b.record here.in_part.is_part (breaks_part here.in_part here.spoils).not_ok true late
+
     silent : IsSilent h h
     silent = record { broken = refl; told = refl; exchanges = refl; still = λ nil. inr (refl, nil) }
 
     tells : TellsBreak (terms_for scope.extent profile) h (behind h.broken here.past h.part b true) b old.feed
-    tells = tells_break scope.beginning h.broken b true here.in_part here.gives here.spoils here.late here.on here.fits h refl refl here.besides
+    tells = tells_break scope.beginning h.broken b true here.in_part here.gives here.spoils late here.on here.fits h refl refl here.besides

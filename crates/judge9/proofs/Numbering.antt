@@ -1,7 +1,7 @@
 -- The parts of a capture where more records come before them: the same with other numbers.
-use Rattle.judge9.proofs.Words.{[], ap, AreEvents, AreParts, AreTotals, arith, begins_next_part, Bool, BrokenPart, Event, events_by, events_in, events_of, Exchange, exchanges_of}
-use Rattle.judge9.proofs.Words.{false, from_command, if◌then◌else◌, in_parts, IsPart, late_replies, length, length-map, LineByte, LineRules, List, may_begin, number_of, Option}
-use Rattle.judge9.proofs.Words.{Outcome, Part, Profile, Reason, refl, Rest, rest_after, Some, subst, sym, true, ℕ, ◌++◌, ◌+◌, ◌∙◌, ◌∷◌, ◌≡◌}
+use Rattle.judge9.proofs.Words.{[], ap, AreEvents, AreEventsAt, AreParts, AreTotals, arith, begins_next_part, BrokenPart, Event, events_of, exchanges_of, IsEvent, Terms}
+use Rattle.judge9.proofs.Words.{from_command, in_parts, IsPart, late_replies, length, length-map, LineByte, List, may_begin, Option}
+use Rattle.judge9.proofs.Words.{Part, Profile, Reason, refl, Rest, rest_after, Some, subst, sym, ℕ, ◌++◌, ◌+◌, ◌∙◌, ◌∷◌, ◌≡◌}
 use Rattle.std.specs.Prelude.{map}
 use Rattle.report9.specs.declared.totals.Totals.{Totals}
 use Rattle.judge9.specs.Renumbered.{renumbered_break, renumbered_event, renumbered_part, renumbered_rest, renumbered_totals}
@@ -11,22 +11,32 @@ use Rattle.std.proofs.lemmas.List.{map-append}
 
 module _ (n : ℕ) where
   -- what is told of records
-  by_renumbered : (past : ℕ) (es : List Exchange) (tail : List LineByte) (r : LineByte) (o : Outcome) → map (renumbered_event n) (events_by past es tail r o) ≡ events_by (n + past) es tail r o
-  by_renumbered past es tail r (Outcome.completes e) = refl
-  by_renumbered past es tail r o = refl
+  event_renumbered : (terms : Terms) (past : ℕ) (before : List LineByte) (r : LineByte) (event : Event) → IsEvent terms past before r event
+      → IsEvent terms (n + past) before r (renumbered_event n event)
+  event_renumbered terms past before r (late_reply at asked first) (number, one, aside, late, has_cut) = (omega (arith, number), one, aside, late, has_cut)
+  event_renumbered terms past before r (exchange at es e) (number, cut, run) = (omega (arith, number), cut, run)
 
-  events_renumbered : (rules : LineRules) (past : ℕ) (es : List Exchange) (tail records : List LineByte) (events : List Event) → AreEvents rules past es tail records events
-      → AreEvents rules (n + past) es tail records (map (renumbered_event n) events)
-  events_renumbered rules past es tail [] events is = ap (map (renumbered_event n)) is
-  events_renumbered rules past es tail (r ∷ records) events (o, more, done, are, is) =
-      let next : n + (past + 1) ≡ n + past + 1 = omega arith in (
-        o,
-        map (renumbered_event n) more,
-        done,
-        rw next at (events_renumbered rules (past + 1) _ _ records more are),
-        ap (map (renumbered_event n)) is ∙ map-append (renumbered_event n) (events_by (past + 1) es tail r o) more
-            ∙ ap (λ l. l ++ map (renumbered_event n) more) (by_renumbered (past + 1) es tail r o ∙ ap (λ m. events_by m es tail r o) next),
-      )
+  none_renumbered : (terms : Terms) (past : ℕ) (before : List LineByte) (r : LineByte) → ((event : Event) → ¬ IsEvent terms past before r event) → (event : Event)
+      → IsEvent terms (n + past) before r event → ⊥
+  none_renumbered terms past before r none (late_reply at asked first) (number, one, aside, late, has_cut) =
+      none (late_reply (past + length before + 1) asked first) (refl, one, aside, late, has_cut)
+  none_renumbered terms past before r none (exchange at es e) (number, cut, run) = none (exchange (past + length before + 1) es e) (refl, cut, run)
+
+  at_renumbered : (terms : Terms) (past : ℕ) (before : List LineByte) (r : LineByte) (events : List Event) → AreEventsAt terms past before r events
+      → AreEventsAt terms (n + past) before r (map (renumbered_event n) events)
+  at_renumbered terms past before r [] none = none_renumbered terms past before r none
+  at_renumbered terms past before r (event ∷ events) (is, nil) = (event_renumbered terms past before r event is, ap (map (renumbered_event n)) nil)
+
+  events_renumbered : (terms : Terms) (past : ℕ) (before records : List LineByte) (events : List Event) → AreEvents terms past before records events
+      → AreEvents terms (n + past) before records (map (renumbered_event n) events)
+  events_renumbered terms past before [] events is = ap (map (renumbered_event n)) is
+  events_renumbered terms past before (r ∷ records) events (some, more, begins, are, is) = (
+    map (renumbered_event n) some,
+    map (renumbered_event n) more,
+    at_renumbered terms past before r some begins,
+    events_renumbered terms past (before ++ r ∷ []) records more are,
+    ap (map (renumbered_event n)) is ∙ map-append (renumbered_event n) some more,
+  )
 
   late_renumbered : (events : List Event) → late_replies (map (renumbered_event n) events) ≡ late_replies events
   late_renumbered [] = refl
@@ -35,7 +45,7 @@ module _ (n : ℕ) where
 
   -- a part
   pub part_renumbered : (profile : Profile) (part : Part) → IsPart (in_parts profile) part → IsPart (in_parts profile) (renumbered_part n part)
-  part_renumbered profile part is = record { cut = is.cut; run = is.run; are_events = events_renumbered _ part.past [] [] part.records part.events is.are_events }
+  part_renumbered profile part is = record { cut = is.cut; run = is.run; are_events = events_renumbered (in_parts profile) part.past [] part.records part.events is.are_events }
 
   -- where the next one begins
   from_renumbered : (past : ℕ) (last : Option LineByte) (records : List LineByte) → from_command (n + past) last records ≡ renumbered_rest n (from_command past last records)
@@ -53,14 +63,14 @@ module _ (n : ℕ) where
   pub parts_renumbered : (profile : Profile) (rest left : Rest) (broken : List BrokenPart) → AreParts (in_parts profile) rest broken left
       → AreParts (in_parts profile) (renumbered_rest n rest) (map (renumbered_break n) broken) (renumbered_rest n left)
   parts_renumbered profile rest left [] is = ap (renumbered_rest n) is
-  parts_renumbered profile rest left (b ∷ broken) (after, same, part, breaks, tells, others) =
+  parts_renumbered profile rest left (b ∷ broken) (after, same, part, breaks, told, others) =
       let size = b.part.past + length b.part.records in
       let past : n + size ≡ n + b.part.past + length b.part.records = omega arith in (
         after,
         ap (renumbered_rest n) same,
         part_renumbered profile b.part part,
         breaks,
-        tells,
+        events_renumbered (in_parts profile) b.part.past [] (b.part.records ++ b.breaking ∷ []) b.events told,
         subst (λ m. AreParts (in_parts profile) (rest_after m b.reason b.breaking after) (map (renumbered_break n) broken) (renumbered_rest n left)) past
             (rw (rest_renumbered size b.reason b.breaking after) (parts_renumbered profile (rest_after size b.reason b.breaking after) left broken others)),
       )
@@ -70,17 +80,9 @@ module _ (n : ℕ) where
   exchanges_renumbered [] = refl
   exchanges_renumbered (b ∷ broken) = ap (λ l. b.part.exchanges ++ l) (exchanges_renumbered broken)
 
-  told_in_renumbered : (b : BrokenPart) → events_in (renumbered_break n b) ≡ map (renumbered_event n) (events_in b)
-  told_in_renumbered b = by b.late
-    where
-      by : (late : Bool) → map (renumbered_event n) b.part.events ++ (if late then late_reply (number_of (renumbered_break n b)) b.part.tail b.breaking ∷ [] else [])
-          ≡ map (renumbered_event n) (b.part.events ++ (if late then late_reply (number_of b) b.part.tail b.breaking ∷ [] else []))
-      by true = ap (λ m. map (renumbered_event n) b.part.events ++ late_reply m b.part.tail b.breaking ∷ []) (omega arith) ∙ sym (map-append (renumbered_event n) b.part.events _)
-      by false = sym (map-append (renumbered_event n) b.part.events [])
-
   told_of_renumbered : (broken : List BrokenPart) → events_of (map (renumbered_break n) broken) ≡ map (renumbered_event n) (events_of broken)
   told_of_renumbered [] = refl
-  told_of_renumbered (b ∷ broken) = rw (told_in_renumbered b, told_of_renumbered broken) (sym (map-append (renumbered_event n) (events_in b) (events_of broken)))
+  told_of_renumbered (b ∷ broken) = rw (told_of_renumbered broken) (sym (map-append (renumbered_event n) b.events (events_of broken)))
 
   late_of : (broken : List BrokenPart) (events : List Event)
       → late_replies (events_of (map (renumbered_break n) broken) ++ map (renumbered_event n) events) ≡ late_replies (events_of broken ++ events)

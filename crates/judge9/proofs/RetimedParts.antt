@@ -1,10 +1,10 @@
 -- A capture whose records come at other times: the same exchanges, and the same is told of each part but of late replies; its parts, and
 -- its totals.
-use Rattle.judge9.proofs.Words.{[], ap, append-nil, append_assoc, AreEvents, AreParts, AreTotals, arith, begins_next_part, BeginsLate, Bool, Breaks, BrokenPart, Cut}
+use Rattle.judge9.proofs.Words.{[], ap, append-nil, append_assoc, AreEvents, AreOutcomes, AreParts, AreTotals, arith, begins_next_part, Bool, Breaks, BrokenPart, Cut}
 use Rattle.judge9.proofs.Words.{Event, events_by, events_of, Exchange, exchanges_after, exchanges_of, false, from_command, in_parts, inl, inr, IsPart}
-use Rattle.judge9.proofs.Words.{IsTail, late_replies, length, length-map, length_push, line_rules, LineByte, List, may_begin, Outcome, Part, Profile}
-use Rattle.judge9.proofs.Words.{Reason, records_in, refl, Rest, rest_after, Some, still_tail, sym, tail_after, takes_up_at, TellsLate, true, ℕ, ◌++◌, ◌+◌, ◌∙◌}
-use Rattle.judge9.proofs.Words.{◌∷◌, ◌≡◌, ◌⊎◌}
+use Rattle.judge9.proofs.Words.{IsTail, late_replies, length, length-map, length_push, LineByte, List, may_begin, Outcome, Part, Profile}
+use Rattle.judge9.proofs.Words.{Reason, records_in, refl, Rest, rest_after, Some, still_tail, sym, tail_after, takes_up_at, true, ℕ, ◌++◌, ◌+◌, ◌∙◌}
+use Rattle.judge9.proofs.Words.{◌∷◌, ◌≡◌}
 use Rattle.block9.specs.declared.line_rules.ReplyLimit.TheVariants.{LeftAside}
 use Rattle.std.specs.Prelude.{map, ◌&&◌}
 use Rattle.judge9.specs.Retimed.{AreRetimed, AreSameParts, IsSamePart, told_untimed, untimed}
@@ -19,8 +19,8 @@ use Rattle.capture9.specs.declared.line_byte.Wire.{Wire}
 use Rattle.capture9.specs.declared.line_byte.Wire.TheVariants.{Controller, Deck}
 use Rattle.report9.specs.declared.totals.Totals.{Totals}
 use Rattle.std.proofs.lemmas.Bool.Decides.{nat_tests}
-use Rattle.judge9.proofs.LawLemmas.{cut_tail}
 use Rattle.judge9.proofs.PartLaws.{IsLast}
+use Rattle.judge9.proofs.Told.{outcomes_of, part_of, some_told}
 
 -- ---- after one record more
 
@@ -99,8 +99,8 @@ module _ (profile : Profile) where
 
   -- and the same is told of them
   told_retimed : (past : ℕ) (es fs : List Exchange) (t u records others : List LineByte) (events : List Event) → IsTail (by_limit profile LeftAside) u
-      → map untimed es ≡ map untimed fs → length t ≡ length u → AreRetimed (t ++ records) (u ++ others) → AreEvents (by_limit profile LeftAside) past es t records events
-      → (told : List Event) × AreEvents (by_limit profile LeftAside) past fs u others told × (told_untimed events ≡ told_untimed told)
+      → map untimed es ≡ map untimed fs → length t ≡ length u → AreRetimed (t ++ records) (u ++ others) → AreOutcomes (by_limit profile LeftAside) past es t records events
+      → (told : List Event) × AreOutcomes (by_limit profile LeftAside) past fs u others told × (told_untimed events ≡ told_untimed told)
   told_retimed past es fs t u [] [] events tail same number times are = ([], refl, rw are refl)
   told_retimed past es fs t u [] (s ∷ others) events tail same number times are = absurd (parted t [] u (s ∷ others) number times).1
   told_retimed past es fs t u (r ∷ records) [] events tail same number times are = absurd (parted t (r ∷ records) u [] number times).1
@@ -123,7 +123,7 @@ module _ (profile : Profile) where
   part_retimed part after others is come =
       let m = halves part.records after others come in
       let c = cut_retimed part.records m.0 part.exchanges part.tail m.3 is.cut in
-      let told = told_retimed part.past [] [] [] [] part.records m.0 part.events (IsTail.nothing refl) refl refl m.3 is.are_events in
+      let told = told_retimed part.past [] [] [] [] part.records m.0 part.events (IsTail.nothing refl) refl refl m.3 (outcomes_of is) in
       let number = retimed_len part.records m.0 m.3 in
       let tail_number = retimed_len part.tail c.1 c.4 in
       let first = tail_last (by_limit profile LeftAside) part.records part.exchanges part.tail is.cut in
@@ -133,7 +133,7 @@ module _ (profile : Profile) where
         other = other;
         rest = m.1;
         split = m.2;
-        is_part = record { cut = c.2; run = run_retimed profile part.exchanges c.0 c.3 is.run; are_events = told.1 };
+        is_part = part_of c.2 (run_retimed profile part.exchanges c.0 c.3 is.run) told.1;
         same = record { past = refl; records = number; exchanges = c.3; tail = tail_number; events = told.2 };
         times = ends_with part.records m.0 first.0 part.tail second.0 c.1 after m.1 first.1 second.1 number tail_number (rw m.2 at come);
       }
@@ -183,11 +183,6 @@ rest_after_retimed n reason r s after others h = by (begins_next_part reason r) 
 
 -- ---- all parts
 
-tells : (profile : Profile) (t : List LineByte) (r : LineByte) → BeginsLate (line_rules (in_parts profile)) t r ⊎ (BeginsLate (line_rules (in_parts profile)) t r → ⊥)
-    → (late : Bool) × TellsLate (line_rules (in_parts profile)) t r late
-tells profile t r (inl late) = (true, late)
-tells profile t r (inr early) = (false, early)
-
 -- the first of the records that come next
 some_next : (r : LineByte) (records others : List LineByte) → AreRetimed (r ∷ records) others → (s : LineByte) × (more : List LineByte) × (others ≡ s ∷ more)
 some_next r records [] h = absurd h
@@ -203,10 +198,10 @@ module _ (profile : Profile) where
   -- with one part before them
   parts_after : (rest : Rest) (b c : BrokenPart) (after : List LineByte) (broken : List BrokenPart) (last : Part)
       → rest ≡ record { past = c.part.past; records = c.part.records ++ c.breaking ∷ after } → IsPart (in_parts profile) c.part
-      → Breaks (in_parts profile) c.part.records c.breaking c.reason → TellsLate (line_rules (in_parts profile)) c.part.tail c.breaking c.late → IsSamePart b.part c.part → b.reason ≡ c.reason
+      → Breaks (in_parts profile) c.part.records c.breaking c.reason → AreEvents (in_parts profile) c.part.past [] (c.part.records ++ c.breaking ∷ []) c.events → IsSamePart b.part c.part → b.reason ≡ c.reason
       → PartsRetimed (rest_after (c.part.past + length c.part.records) c.reason c.breaking after) broken last → PartsRetimed rest (b ∷ broken) last
-  parts_after rest b c after broken last records part breaks late same reason (others, behind, end, parts, is_last, are_same, same_end) =
-      (c ∷ others, behind, end, (after, records, part, breaks, late, parts), is_last, (c, others, refl, same, reason, are_same), same_end)
+  parts_after rest b c after broken last records part breaks told same reason (others, behind, end, parts, is_last, are_same, same_end) =
+      (c ∷ others, behind, end, (after, records, part, breaks, told, parts), is_last, (c, others, refl, same, reason, are_same), same_end)
 
   pub parts_retimed : (rest left other : Rest) (broken : List BrokenPart) (last : Part) → AreParts (in_parts profile) rest broken left → IsLast profile left last → IsRetimed rest other
       → PartsRetimed other broken last
@@ -227,15 +222,14 @@ module _ (profile : Profile) where
       let s = next.0 in
       let times = rw next.2 at m.times in
       let n = next_in b.part.tail m.other.tail b.breaking s after next.1 m.same.tail times in
-      let begins = tells profile m.other.tail s (late_or_not (line_rules (in_parts profile)) m.other.tail s
-      (cut_tail (line_rules (in_parts profile)) m.other.records m.other.exchanges m.other.tail m.is_part.cut)) in
+      let breaks_now = break_retimed profile LeftAside b.part.records b.part.exchanges b.part.tail m.other.records m.other.exchanges m.other.tail b.breaking s b.reason part.cut m.is_part.cut
+      m.same.exchanges n (aside_soon profile (m.other.tail ++ s ∷ [])) (λ h. absurd (cc h.0)) breaks in
+      let told = some_told m.other s m.is_part breaks_now.not_ok in
       let number : m.other.past + length m.other.records ≡ b.part.past + length b.part.records = omega (arith, m.same.past, m.same.records) in
       let behind = rest_after_retimed (b.part.past + length b.part.records) b.reason b.breaking s after next.1
       (parted b.part.tail (b.breaking ∷ after) m.other.tail (s ∷ next.1) m.same.tail times).1 in
-      parts_after other b (record { part = m.other; breaking = s; reason = b.reason; late = begins.0 }) next.1 broken last
-      (rest_is other m.other s next.1 (sym come.0 ∙ ap (λ (x : Rest). x.past) same ∙ m.same.past) (rw next.2 at m.split)) m.is_part
-      (break_retimed profile LeftAside b.part.records b.part.exchanges b.part.tail m.other.records m.other.exchanges m.other.tail b.breaking s b.reason part.cut m.is_part.cut
-      m.same.exchanges n (aside_soon profile (m.other.tail ++ s ∷ [])) (λ h. absurd (cc h.0)) breaks) begins.1 m.same refl
+      parts_after other b (record { part = m.other; breaking = s; reason = b.reason; events = told.0 }) next.1 broken last
+      (rest_is other m.other s next.1 (sym come.0 ∙ ap (λ (x : Rest). x.past) same ∙ m.same.past) (rw next.2 at m.split)) m.is_part breaks_now told.1 m.same refl
       (parts_retimed (rest_after (b.part.past + length b.part.records) b.reason b.breaking after) left (rest_after (m.other.past + length m.other.records) b.reason s next.1) broken last
       others is (rw number behind))
     where

@@ -9,6 +9,7 @@ use Rattle.judge9.proofs.LawLemmas.{no_run_first, tail_breaks}
 use Rattle.block9.proofs.CutLemmas.{exchange_less}
 use Rattle.judge9.proofs.ReadSteps.{read_next}
 use Rattle.judge9.proofs.RunSteps.{follows-more, follows-start}
+use Rattle.judge9.proofs.Told.{outcomes_of, part_of}
 
 -- the part with one record more, which does this
 abbrev pub with_record : Part → LineByte → Outcome → Part
@@ -59,11 +60,8 @@ module _ {R : Type 0} {limit : ℕ} {terms : Terms} {rows : Option Rows} {past :
       → HasRun terms.profile (exchanges_after part.exchanges s) → KeepsEnds terms.profile (exchanges_after part.exchanges s) k.follower.tracker
       → InPart limit terms rows past (with_record part r s) k
   more {k = k} {r = r} s gives takes run follows = record {
-    is_part = record {
-      cut = cut-step (line_rules terms) part.records part.exchanges part.tail r s h.is_part.cut (step_on takes);
-      run = run;
-      are_events = events_push (line_rules terms) [] part.past [] [] part.records r part.events part.exchanges part.tail s (refl, IsTail.nothing refl) h.is_part.cut h.is_part.are_events (step_on takes);
-    };
+    is_part = part_of (cut-step (line_rules terms) part.records part.exchanges part.tail r s h.is_part.cut (step_on takes)) run
+        (events_push (line_rules terms) [] part.past [] [] part.records r part.events part.exchanges part.tail s (refl, IsTail.nothing refl) h.is_part.cut (outcomes_of h.is_part) (step_on takes));
     number = h.number;
     open_records = rw h.open_records at takes.tail;
     follows = follows;

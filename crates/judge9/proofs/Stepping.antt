@@ -3,12 +3,13 @@ use Rattle.judge9.proofs.Words.{[], ap, append-nil, append_assoc, arith, Beginni
 use Rattle.judge9.proofs.Words.{Feed, Fits, Follower, GivesRecord, GivesRefusal, GoesOn, History, inl, inr, InPart, IsBehind, IsPart, IsRefused, IsSilent, IsWithin}
 use Rattle.judge9.proofs.Words.{JudgeError, judged_from, last_time-append, length, length-append, length_push, LineByte, line_rules, List, no_part, Ok, Option, Part, Reached, refusal_of}
 use Rattle.judge9.proofs.Words.{AreParts, refl, Rest, rest_after, Result, Rows, ShowsBreak, Some, Spoils, subst, sym, TellsBesides, TellsBreak, TellsExchange, TellsLateReply, Terms, told_in, Turn, Turned, ℕ}
-use Rattle.judge9.proofs.Words.{besides_of, IsTail, Outcome, run_start, ◌++◌, ◌+◌, ◌∙◌, ◌∷◌, ◌≡◌, ◌⊎◌}
+use Rattle.judge9.proofs.Words.{besides_by, IsTail, Outcome, run_start, ◌++◌, ◌+◌, ◌∙◌, ◌∷◌, ◌≡◌, ◌⊎◌}
 use Rattle.judge9.specs.Parts.Event.{exchange, late_reply}
 use Rattle.judge9.proofs.Coming.{Came, holds-more}
 use Rattle.judge9.proofs.HistorySteps.{fits_behind, given_here, history_at, history_now}
 use Rattle.judge9.proofs.LawLemmas.{pairing_reason}
 use Rattle.judge9.proofs.SoFar.{breaks, more_exchange, more_late, none_observed, number_on, observed_more, read_on, step_on, with_record}
+use Rattle.judge9.proofs.Told.{told_with_break}
 
 -- behind so many records, so many of which are those of a part
 abbrev pub history : List LineByte → List BrokenPart → Part → List Event → History
@@ -16,7 +17,12 @@ history items broken part besides = record { items = items; broken = broken; par
 
 -- the records that broke a part, the one that breaks among them
 abbrev pub broken_at : Part → Break → Bool → BrokenPart
-broken_at part b late = record { part = part; breaking = b.record; reason = b.reason; late = late }
+broken_at part b late = record {
+  part = part;
+  breaking = b.record;
+  reason = b.reason;
+  events = part.events ++ besides_by (part.past + length part.records + 1) part.tail b.record late;
+}
 
 -- what a break shows
 shows_break : {R : Type 0} {limit : ℕ} {terms : Terms} {rows : Option Rows} {past : List LineByte} {part : Part} {before : Feed R} {after : Follower} {b : Break} (late : Bool)
@@ -158,7 +164,7 @@ module _ {R : Type 0} {limit : ℕ} {terms : Terms} (beginning : Beginning) {row
       let rest : AreParts terms (rest_after (part.past + length part.records) b.reason b.record after) others left =
       subst (λ n. AreParts terms (rest_after n b.reason b.record after) others left) n parts in
       let whole = on after (broken_at part b late ∷ others) left
-      (after, ap (λ n. let rest : Rest = record { past = n; records = part.records ++ b.record ∷ after } in rest) (sym in_part.number), in_part.is_part, breaks in_part spoils, besides, rest) in
+      (after, ap (λ n. let rest : Rest = record { past = n; records = part.records ++ b.record ∷ after } in rest) (sym in_part.number), in_part.is_part, breaks in_part spoils, told_with_break part b.record in_part.is_part (breaks in_part spoils).not_ok late besides, rest) in
       rw (append_assoc past part.records (b.record ∷ after), append_assoc broken (broken_at part b late ∷ []) others) whole
 
   pub stands_behind : IsBehind limit terms beginning rows (behind broken past part b late) b k
@@ -189,7 +195,7 @@ module _ {R : Type 0} {limit : ℕ} {terms : Terms} (beginning : Beginning) {row
   }
 
   -- what is told of it, behind this
-  pub tells_break : (h : History) → h.broken ≡ broken → h.part ≡ part → h.besides ≡ besides_of (broken_at part b late) → TellsBreak terms h (behind broken past part b late) b k
+  pub tells_break : (h : History) → h.broken ≡ broken → h.part ≡ part → h.besides ≡ besides_by (part.past + length part.records + 1) part.tail b.record late → TellsBreak terms h (behind broken past part b late) b k
   tells_break h same_broken same_part same_besides = record {
     part = broken_at part b late;
     broken = ap (λ l. l ++ broken_at part b late ∷ []) (sym same_broken);

@@ -1,5 +1,5 @@
 -- What is told of records up to a first break has one text, which that of first records begins.
-use Rattle.judge9.proofs.Words.{[], ap, append-nil, append_assoc, AreEvents, AreTextsOf, BrokenPart, counting, Cut, cut_parted, Event, Does, events_by, Exchange, exchanges_after, IsTail}
+use Rattle.judge9.proofs.Words.{[], ap, append-nil, append_assoc, AreOutcomes, AreTextsOf, BrokenPart, counting, Cut, cut_parted, Event, Does, events_by, Exchange, exchanges_after, IsTail}
 use Rattle.judge9.proofs.Words.{HasRun, IsBreakText, IsEventText, IsPart}
 use Rattle.judge9.proofs.Words.{known_of_ends, line_of_exchange, line_rules, LineByte, LineRules, List, Outcome, Part, Profile, refl}
 use Rattle.judge9.proofs.Words.{subst, sym, tail_after, Terms, View, ℕ, ⊤, ◌++◌, ◌+◌, ◌∙◌, ◌∷◌, ◌≡◌}
@@ -9,6 +9,7 @@ use Rattle.judge9.proofs.CutSteps.{cut-step}
 use Rattle.judge9.proofs.EventSteps.{does_once, limit_counts}
 use Rattle.judge9.proofs.LawLemmas.{first_of}
 use Rattle.judge9.proofs.RunSteps.{run_less}
+use Rattle.judge9.proofs.Told.{outcomes_of}
 use Rattle.judge9.proofs.WhyOnce.{why_once}
 
 -- ---- what is told where the reply limit counts
@@ -24,7 +25,7 @@ AreAllGiven profile (event ∷ events) = IsGiven profile event × AreAllGiven pr
 
 all_given : (terms : Terms) → terms.reply_limit ≡ Counts → (past : ℕ) (p : List LineByte) (es : List Exchange) (tail records : List LineByte) (events : List Event)
     (fs : List Exchange) (now : List LineByte) → Cut (line_rules terms) p es tail → Cut (line_rules terms) (p ++ records) fs now → HasRun terms.profile fs
-    → AreEvents (line_rules terms) past es tail records events → AreAllGiven terms.profile events
+    → AreOutcomes (line_rules terms) past es tail records events → AreAllGiven terms.profile events
 all_given terms counts past p es tail [] events fs now cut all run is = rw is tt
 all_given terms counts past p es tail (r ∷ records) events fs now cut all run (o, more, done, are, is) =
     by o done (all_given terms counts (past + 1) (p ++ r ∷ []) (exchanges_after es o) (tail_after tail r o) records more fs now (cut-step (line_rules terms) p es tail r o cut done) whole run are) is
@@ -46,11 +47,11 @@ all_given terms counts past p es tail (r ∷ records) events fs now cut all run 
 
 pub part_given : (profile : Profile) (part : Part) → IsPart (counting profile) part → AreAllGiven profile part.events
 part_given profile part is =
-    all_given (counting profile) refl part.past [] [] [] part.records part.events part.exchanges part.tail (refl, IsTail.nothing refl) is.cut is.run is.are_events
+    all_given (counting profile) refl part.past [] [] [] part.records part.events part.exchanges part.tail (refl, IsTail.nothing refl) is.cut is.run (outcomes_of is)
 
 -- what is told of first records begins what is told of all
 pub events_start : (rules : LineRules) (past : ℕ) (es : List Exchange) (tail records more : List LineByte) (events whole : List Event)
-    → AreEvents rules past es tail records events → AreEvents rules past es tail (records ++ more) whole
+    → AreOutcomes rules past es tail records events → AreOutcomes rules past es tail (records ++ more) whole
     → (rest : List Event) × (whole ≡ events ++ rest) × (more ≡ [] → rest ≡ [])
 events_start rules past es tail [] more events whole a b = (whole, ap (λ l. l ++ whole) (sym a), λ none. rw none at b)
 events_start rules past es tail (r ∷ records) more events whole (o, some, done, are, is) (p, others, does, also, same) =

@@ -1,13 +1,13 @@
 -- What is promised of a verdict and of a refusal follows from what was told.
 use Rattle.judge9.proofs.Words.{[], Answer, answer_of, ap, append_assoc, AreCounts, AreParts, arith, Beginning, Bool, BrokenPart, by_totals, by_verdict, CanBeResult, CaptureError, counting, Err, Extent, false, HasHeader, History, IfErr, IfNone, IfSome, if◌then◌else◌, inl, inr}
-use Rattle.judge9.proofs.Words.{is_of_text, IsAnswerFrom, IsHistory, IsOfSomeText, IsOk, IsStartOf, IsTheAnswer, JudgeError, judged_from, length, length-append, line_rules, LineByte, List, most_rows, None, Ok, Option, option_map}
-use Rattle.judge9.proofs.Words.{Profile, refl, Rest, Result, Rows, rows_of, rows_within, Scope, Some, StoppedBefore, subst, tail_short, Terms, true, Verdict, View, ℕ, ◌++◌, ◌+◌, ◌∷◌, ◌≡◌, ◌≢◌, ◌≤◌}
+use Rattle.judge9.proofs.Words.{is_of_text, IsAnswerFrom, IsHistory, IsOfSomeText, IsOk, IsStartOf, IsTheAnswer, JudgeError, judged_from, judged_rows, length, length-append, line_rules, LineByte, List, most_rows, None, Ok, Option, option_map}
+use Rattle.judge9.proofs.Words.{passed_before, Profile, refl, Rest, Result, Rows, rows_of, rows_within, Scope, Some, StoppedBefore, subst, tail_short, Terms, true, Verdict, View, ℕ, ◌++◌, ◌+◌, ◌∷◌, ◌≡◌, ◌≢◌, ◌≤◌}
 use Rattle.capture9.proofs.LawLemmas.{can-be}
 use Rattle.capture9.proofs.Words.{default_config, records, strip_bom}
 use Rattle.report9.specs.declared.totals.Totals.{Totals}
 use Rattle.judge9.specs.Judging.{Answers}
 use Rattle.judge9.specs.Working.Reporting.{Judged}
-use Rattle.judge9.proofs.LawLemmas.{answer_once_from, cut_tail, part_ok}
+use Rattle.judge9.proofs.LawLemmas.{answer_once, cut_tail, part_ok}
 use Rattle.judge9.proofs.LineSteps.{cut_counts}
 use Rattle.judge9.proofs.PartSteps.{judged_more, judged_size}
 
@@ -36,7 +36,7 @@ up_to_break beginning = record { extent = Extent.FirstBreak; beginning = beginni
 
 -- an answer is the only one
 the_answer : (beginning : Beginning) (profile : Profile) (rows : Rows) (answer : Answer) → IsAnswerFrom beginning profile rows answer → IsTheAnswer beginning profile rows answer
-the_answer beginning profile rows answer h = record { is_answer = h; only = λ other k. answer_once_from beginning profile rows other answer k h }
+the_answer beginning profile rows answer h = record { is_answer = h; only = λ other k. answer_once profile (passed_before beginning rows) (judged_rows beginning rows) other answer k h }
 
 module _ {view : View} {beginning : Beginning} {profile : Profile} {known : Option Rows} {old new : Option (List ℕ)} where
   pub right : (r : Result Verdict JudgeError) (j : Judged view (up_to_break beginning) profile known (by_verdict r) old new) → IfSome (answer_of r) (IsTheAnswer beginning profile j.told.rows)
@@ -54,21 +54,24 @@ module _ {view : View} {beginning : Beginning} {profile : Profile} {known : Opti
         tail_number = tail_number;
       } in
       let yes = Answer.judged (Verdict.Yes records exchanges tail) in
-      rw end.all (the_answer beginning profile _ yes (yes, (refl, rw (judged_part is none end.all_judged) counts), refl))
+      rw end.all (the_answer beginning profile _ yes (refl, rw (judged_part is none end.all_judged) counts))
   right (Ok (Verdict.No at reason)) j =
       let (b, one, number, same) = j.told.written.0 in
       let parts = rw one at j.told.so_far.is_history.parts in
       let rest = judged_broken beginning b j.told.so_far.history.items j.told.rows.records parts j.told.so_far.start in
-      rw same (the_answer beginning profile j.told.rows (Answer.judged (Verdict.No at b.reason)) (
-        Answer.judged (Verdict.No (length b.part.records + 1) b.reason),
-        record { before = b.part.records; next = b.breaking; after = rest.0; split = ap (λ (r : Rest). r.records) rest.1; number = refl; breaks = parts.3 },
-        ap (λ n. Answer.judged (Verdict.No n b.reason)) (omega (arith, number, ap (λ (r : Rest). r.past) rest.1)),
-      ))
+      rw same (the_answer beginning profile j.told.rows (Answer.judged (Verdict.No at b.reason)) (record {
+        before = b.part.records;
+        next = b.breaking;
+        after = rest.0;
+        split = ap (λ (r : Rest). r.records) rest.1;
+        number = omega (arith, number, ap (λ (r : Rest). r.past) rest.1);
+        breaks = parts.3;
+      }))
   right (Err (JudgeError.Capture e)) j = by (is_of_text e.kind) refl
     where
       by : (b : Bool) → is_of_text e.kind ≡ b → IfSome (if b then Some (Answer.unreadable e) else None) (IsTheAnswer beginning profile j.told.rows)
       by true text = rw (j.told.written.0.fault text) (the_answer beginning profile _ (Answer.unreadable e)
-          (Answer.unreadable e, (refl, judged_ok j.told.so_far.is_history (j.refusal.2 refl) j.told.written.0.all_judged), refl))
+          (refl, judged_ok j.told.so_far.is_history (j.refusal.2 refl) j.told.written.0.all_judged))
       by false other = tt
   right (Err JudgeError.Write) j = tt
   right (Err JudgeError.OutOfMemory) j = tt

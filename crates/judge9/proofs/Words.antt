@@ -29,14 +29,15 @@ pub use Rattle.deck9.proofs.RunSearch.{run_start}
 pub use Rattle.deck9.specs.Run.{HasRun, IsRun}
 pub use Rattle.deck9.specs.declared.mode.Mode.{Mode}
 pub use Rattle.deck9.specs.declared.state.Register.TheVariants.{the_data as Register}
-pub use Rattle.judge9.specs.Judging.{Answer, answer_of, IsAnswer, IsAnswerFrom, IsOkBefore, IsTheAnswer, moved_by}
+pub use Rattle.judge9.specs.Judging.{Answer, answer_of, IsAnswer, IsAnswerFrom, IsOkBefore, IsTheAnswer}
 pub use Rattle.report9.specs.declared.verdict.Beginning.TheVariants.{the_data as Beginning}
 pub use Rattle.judge9.specs.Verdict.{Applies, AreCounts, Breaks, CanBeVerdict, counting, IsFirstBreak, IsOk, line_rules, Terms}
 pub use Rattle.why9.specs.Shown.{CouldShow}
 pub use Rattle.track9.specs.Following.{KeepsEnds}
 pub use Rattle.judge9.specs.Beginning.{begins_next_part, from_command, judged_from, judged_rows, may_begin, passed_before, Rest, rest_after, takes_up_at}
 pub use Rattle.judge9.specs.Parts.{AreParts, AreTotals, BrokenPart, exchanges_of, in_parts, IsPart, number_of, Part}
-pub use Rattle.judge9.specs.Parts.{AreEvents, Event, events_by, events_in, events_of, exchanges_after, late_replies}
+pub use Rattle.judge9.specs.Parts.{AreEvents, AreEventsAt, Event, events_of, IsEvent, late_replies}
+pub use Rattle.judge9.proofs.ByOutcome.{AreOutcomes, besides_by, events_by, exchanges_after, TellsBesides}
 pub use Rattle.report9.specs.WhyText.{text_of_why}
 pub use Rattle.judge9.specs.Working.Beginnings.{BeginsAfter, BeginsAt, ComesFirst, ComesThen, GivesAll, last_of, NoneBegins, PassesOver, Resumes, ResumesAfter, TakesUp}
 pub use Rattle.std.proofs.Common.{ap, arith, drop, get_or, if◌then◌else◌, inl, inr, length-append, OnOk, option_map, refl, slice_range, subst, sym, take-add}
@@ -67,7 +68,6 @@ pub use Rattle.judge9.specs.Working.{StoppedBefore, suc, take, Takes, Tracked, t
 pub use Rattle.judge9.specs.Working.Turns.{AreOpen, BeginsReplyLate, Comes, ComesTo, EndsRows, IsObserved, IsOpen, Took, Turned, Waits}
 pub use Rattle.judge9.specs.Events.{AreRead, ComesToEnd, IsRefused, IsSilent, Reached, ShowsBreak, Tells, TellsBreak, TellsExchange, TellsLate as TellsLateReply, WereGiven, WereRead}
 pub use Rattle.judge9.specs.History.{History, IsBesides, IsHistory, no_part, nothing_told, told_in}
-pub use Rattle.judge9.specs.Parts.{besides_of, TellsBesides}
 pub use Rattle.judge9.specs.Standing.{Advances, AreCounted, CanGoOn, Completes, Fits, GoesOn, InPart, IsAtBreak, IsBehind, IsFresh, IsWithin, KnowsNothing, left_of, Next, Observes, ShowsExchange, Spoils, Stands, StandsAt, Stops, weight}
 pub use Rattle.judge9.specs.Working.Marking.{GrowsBy, late_besides, IsMarked, IsToldOf, Marks, MarksBreak}
 pub use Rattle.judge9.specs.Verdict.{reply_limit_of, rows_allowed, terms_for}

@@ -22,7 +22,7 @@ use Rattle.judge9.specs.declared.event.Event.{Event}
 use Rattle.judge9.specs.declared.event.Event.TheVariants as event
 use Rattle.judge9.specs.declared.feed.Feed.{Feed}
 use Rattle.judge9.specs.History.{History, IsHistory, told_in}
-use Rattle.judge9.specs.Parts.{BrokenPart, events_in, number_of}
+use Rattle.judge9.specs.Parts.{BrokenPart, number_of}
 use Rattle.judge9.specs.Parts.Event.{exchange, late_reply}
 use Rattle.judge9.specs.Verdict.{Terms, line_rules}
 
@@ -97,7 +97,7 @@ pub record TellsBreak {R : Type 0} (terms : Terms) (h next : History) (b : Break
   pub part : BrokenPart
   pub broken : next.broken ≡ h.broken ++ part ∷ []
   pub exchanges : part.part.exchanges ≡ h.part.exchanges
-  pub events : events_in part ≡ told_in h
+  pub events : part.events ≡ told_in h
   pub still : part.part.tail ≡ [] → (part.part.exchanges ≡ []) ⊎ ((part.part.records ≡ h.part.records) × (h.part.tail ≡ []))
   pub breaking : part.breaking ≡ b.record
   pub reason : part.reason ≡ b.reason

@@ -22,25 +22,18 @@ pub data Answer : Type 0 where
   judged : Verdict → Answer
   unreadable : CaptureError → Answer
 
--- the answer is right for a text with these rows: yes where no row is bad and all the records keep the rules,
--- no where a record is the first that breaks one, and else the fault of the first bad row, which needs that
--- all the records before it keep the rules
-abbrev pub IsAnswer : Profile → Rows → Answer → Type 0
-IsAnswer profile rows (judged (verdict.Yes records exchanges tail)) = (rows.fault ≡ None) × AreCounts (counting profile) rows.records records exchanges tail
-IsAnswer profile rows (judged (verdict.No at reason)) = IsFirstBreak (counting profile) rows.records at reason
-IsAnswer profile rows (unreadable e) = (rows.fault ≡ Some e) × IsOk (counting profile) rows.records
+-- the answer is right for these rows, before which so many records are passed over: yes where no row is bad and all the records
+-- keep the rules, no where a record is the first that breaks one, by its number in the whole capture, and else the fault of the
+-- first bad row, which needs that all the records before it keep the rules
+abbrev pub IsAnswer : Profile → ℕ → Rows → Answer → Type 0
+IsAnswer profile past rows (judged (verdict.Yes records exchanges tail)) =
+    (rows.fault ≡ None) × AreCounts (counting profile) rows.records records exchanges tail
+IsAnswer profile past rows (judged (verdict.No at reason)) = IsFirstBreak (counting profile) past rows.records at reason
+IsAnswer profile past rows (unreadable e) = (rows.fault ≡ Some e) × IsOk (counting profile) rows.records
 
--- the same answer of records before which so many are passed over: they keep the numbers that they have in the whole capture
-abbrev pub moved_by : ℕ → Answer → Answer
-moved_by past (judged (verdict.Yes records exchanges tail)) = judged (verdict.Yes records exchanges tail)
-moved_by past (judged (verdict.No at reason)) = judged (verdict.No (past + at) reason)
-moved_by past (unreadable e) = unreadable e
-
--- the answer is right for a text with these rows that is judged from this beginning on: it is that of the rows that are judged,
--- with the numbers that they have in the whole capture
+-- the answer is right for a text with these rows that is judged from this beginning on: it is that of the rows that are judged
 abbrev pub IsAnswerFrom : Beginning → Profile → Rows → Answer → Type 0
-IsAnswerFrom beginning profile rows answer =
-    (own : Answer) × IsAnswer profile (judged_rows beginning rows) own × (answer ≡ moved_by (passed_before beginning rows) own)
+IsAnswerFrom beginning profile rows answer = IsAnswer profile (passed_before beginning rows) (judged_rows beginning rows) answer
 
 -- it is right, and no other one is
 pub record IsTheAnswer (beginning : Beginning) (profile : Profile) (rows : Rows) (answer : Answer) : Type 0 where

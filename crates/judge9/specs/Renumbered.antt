@@ -16,7 +16,7 @@ abbrev pub renumbered_part : ℕ → Part → Part
 renumbered_part more part = record part { past = more + part.past; events = map (renumbered_event more) part.events }
 
 abbrev pub renumbered_break : ℕ → BrokenPart → BrokenPart
-renumbered_break more b = record b { part = renumbered_part more b.part }
+renumbered_break more b = record b { part = renumbered_part more b.part; events = map (renumbered_event more) b.events }
 
 -- those records are passed over
 abbrev pub renumbered_totals : ℕ → Totals → Totals

@@ -29,7 +29,7 @@ use Rattle.report9.specs.declared.verdict.View.TheVariants.{Explain, Why}
 use Rattle.report9.specs.declared.why_no.WhyNo.{WhyNo}
 use Rattle.judge9.specs.Beginning.{Rest}
 use Rattle.judge9.specs.History.{History, IsHistory, told_in}
-use Rattle.judge9.specs.Parts.{AreTotals, BrokenPart, Event, events_in, number_of}
+use Rattle.judge9.specs.Parts.{AreTotals, BrokenPart, Event, number_of}
 use Rattle.judge9.specs.Parts.Event.{exchange, late_reply}
 use Rattle.judge9.specs.Verdict.{Terms, line_rules, rows_allowed, terms_for}
 use Rattle.judge9.specs.Why.{IsWhy, SaysLate}
@@ -59,7 +59,7 @@ IsBreakText view terms b text = text ≡ line_of (No (number_of b) b.reason)
 -- what is written of a part that breaks
 abbrev pub IsPartText : View → Terms → BrokenPart → List ℕ → Type 0
 IsPartText view terms b text =
-    (lines : List ℕ) × (end : List ℕ) × AreTextsOf (IsEventText view terms) (events_in b) lines × IsBreakText view terms b end × (text ≡ lines ++ end)
+    (lines : List ℕ) × (end : List ℕ) × AreTextsOf (IsEventText view terms) b.events lines × IsBreakText view terms b end × (text ≡ lines ++ end)
 
 -- the text of all that was told
 pub record IsToldText (view : View) (terms : Terms) (h : History) (text : List ℕ) : Type 0 where

@@ -1,5 +1,5 @@
 -- Where a judging stands between two events, and what the next one is.
-use Rattle.std.specs.Prelude.{◌≡◌, ◌⊎◌, ◌↔◌, ◌+◌, ◌*◌, ◌-◌, ◌≤◌, ℕ, Bool, true, false, if◌then◌else◌, IsTrue, List, [], ◌∷◌, ◌++◌, length, Option, Some, None, Result, Ok, Err, ⊤}
+use Rattle.std.specs.Prelude.{◌≡◌, ◌⊎◌, ◌↔◌, ◌+◌, ◌*◌, ◌-◌, ◌≤◌, ℕ, Bool, false, if◌then◌else◌, IsTrue, List, [], ◌∷◌, ◌++◌, length, Option, Some, None, Result, Ok, Err, ⊤}
 use Rattle.std.specs.Option.{ForSome}
 use Rattle.capture9.specs.declared.line_byte.LineByte.{LineByte}
 use Rattle.capture9.specs.Fields.{greatest_limit}
@@ -7,8 +7,9 @@ use Rattle.capture9.specs.declared.records.Standing.TheVariants.{Reading}
 use Rattle.capture9.specs.Records.{GivesRecord, Progress}
 use Rattle.capture9.specs.Rows.{Rows}
 use Rattle.block9.specs.declared.exchange.Exchange.{Exchange}
-use Rattle.block9.specs.Exchange.{Outcome, TellsLate, records_in}
+use Rattle.block9.specs.Exchange.{BeginsLate, Outcome, TellsLate, records_in}
 use Rattle.block9.specs.Pairer.{Refuses, Takes}
+use Rattle.block9.specs.declared.line_rules.ReplyLimit.TheVariants.{LeftAside}
 use Rattle.block9.specs.declared.reason.Reason.TheVariants.{NoRun}
 use Rattle.deck9.specs.declared.profile.Profile.{Profile}
 use Rattle.deck9.specs.declared.state.State.{State}
@@ -36,7 +37,7 @@ use Rattle.judge9.specs.declared.stage.Stage.TheVariants as stage
 use Rattle.judge9.specs.Beginning.{Rest, judged_from, rest_after, takes_up_at}
 use Rattle.judge9.specs.Events.{AreRead, ComesToEnd, IsRefused, IsSilent, Reached, Tells}
 use Rattle.judge9.specs.History.{History, no_part, nothing_told, told_in}
-use Rattle.judge9.specs.Parts.{AreParts, BrokenPart, IsPart, Part, TellsBesides, events_of, exchanges_of, late_replies, number_of}
+use Rattle.judge9.specs.Parts.{AreParts, BrokenPart, IsPart, Part, events_of, exchanges_of, late_replies, number_of}
 use Rattle.judge9.specs.Parts.Event.{late_reply}
 use Rattle.judge9.specs.Verdict.{Terms, line_rules, rows_allowed, terms_for}
 
@@ -141,7 +142,8 @@ pub record IsAtBreak {R : Type 0} (limit : ℕ) (terms : Terms) (beginning : Beg
   pub gives : GivesRecord before.rows b.record j.rows
   pub spoils : Spoils before.follower j.follower b
   pub items : h.items ≡ past ++ (h.part.records ++ b.record ∷ [])
-  pub late : TellsBesides terms.reply_limit (line_rules terms) h.part.tail b.record true
+  pub left_aside : terms.reply_limit ≡ LeftAside
+  pub late : BeginsLate (line_rules terms) h.part.tail b.record
   pub besides : h.besides ≡ late_reply (h.part.past + length h.part.records + 1) h.part.tail b.record ∷ []
   pub on : (more : List LineByte) → GoesOn terms beginning h.broken past (h.part.records ++ b.record ∷ more)
   pub fits : Fits h.broken past

@@ -88,13 +88,13 @@ pub record AreCounts (terms : Terms) (items : List LineByte) (records exchanges 
   pub exchange_number : exchanges ≡ length cut_exchanges
   pub tail_number : tail ≡ length cut_tail
 
--- the record with this number, counted from 1, is the first that breaks a rule, and this is the reason
-pub record IsFirstBreak (terms : Terms) (items : List LineByte) (at : ℕ) (reason : Reason) : Type 0 where
+-- of these records, before which so many come, the one with this number is the first that breaks a rule, and this is the reason
+pub record IsFirstBreak (terms : Terms) (past : ℕ) (items : List LineByte) (at : ℕ) (reason : Reason) : Type 0 where
   pub before : List LineByte
   pub next : LineByte
   pub after : List LineByte
   pub split : items ≡ before ++ next ∷ after
-  pub number : at ≡ length before + 1
+  pub number : at ≡ past + length before + 1
   pub breaks : Breaks terms before next reason
 
 -- counts that a capture can have: an exchange has 6 to 36 records, and the open tail 35 at most

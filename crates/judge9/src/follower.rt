@@ -3,7 +3,7 @@ ghost use Rattle.std.specs.Prelude.{◌≡◌, ◌≤◌, IfOk, None, OnOk};
 ghost use Rattle.std.specs.Option.{ForSome};
 ghost use Rattle.block9.specs.declared.exchange.Exchange.{Exchange as AnExchange};
 ghost use Rattle.judge9.specs.Verdict.{line_rules, terms_of};
-ghost use Rattle.judge9.specs.Standing.{KnowsNothing};
+ghost use Rattle.judge9.specs.Standing.{KnowsNothing, Observes};
 ghost use Rattle.judge9.specs.Working.Turns.{IsObserved, Took};
 
 use crate::event::{Break, Event};
@@ -33,6 +33,17 @@ fn line_rules<'a>(reply_limit: ReplyLimit, profile: &'a Profile) -> LineRules<'a
         reply_limit,
         replies: Deck::replies(profile.deck.as_ref()),
     }
+}
+
+/// Takes an exchange, and answers whether a state of the deck remains. An error comes where memory is refused.
+#[inline(never)] // else the loop over rows grows too large to be inlined where it is called
+fn take_exchange(
+    tracker: &mut Tracker<'_, SpanSet>,
+    exchange: &Exchange,
+) -> Result<bool, AllocError>
+    ensures { IfOk result (λ b. Observes tracker.old tracker.new exchange.now b) }
+{
+    tracker.take(exchange)
 }
 
 impl<'a> Follower<'a> {
@@ -79,7 +90,7 @@ impl<'a> Follower<'a> {
         ensures observed { (e : AnExchange) → self.old.pairer.exchange ≡ Some e → IsObserved self.old.tracker e last result self.new.tracker }
     {
         let exchange = self.pairer.completed_exchange();
-        if self.tracker.take(exchange)? {
+        if take_exchange(&mut self.tracker, exchange)? {
             return Ok(Some(Event::Exchange));
         }
         let reason = Reason::NoRun;

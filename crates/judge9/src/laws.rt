@@ -1,6 +1,6 @@
 //! The laws of the definitions that contracts cite, each the contract of a function that does nothing: what
 //! carries a verdict from a record to the next.
-ghost use Rattle.std.specs.Prelude.{◌≡◌, ◌≤◌, ◌+◌, ◌↔◌, map, ℕ, if◌then◌else◌, List, [], ◌∷◌, ◌++◌, drop, length, Option, Result, Some};
+ghost use Rattle.std.specs.Prelude.{◌≡◌, ◌==◌, ◌≤◌, ◌+◌, ◌↔◌, map, ℕ, if◌then◌else◌, List, [], ◌∷◌, ◌++◌, drop, length, Option, Result, Some};
 ghost use Rattle.block9.specs.Exchange.{Cut, IsKept};
 ghost use Rattle.block9.specs.Line.{last_time};
 ghost use Rattle.block9.specs.Reason.{IsReason};
@@ -63,7 +63,7 @@ pub fn some_reason_applies()
 
 /// At most one answer is right for a text.
 pub fn one_answer()
-    ensures { (profile : Profile) (rows : Rows) (answer other : Answer) → IsAnswer profile rows answer → IsAnswer profile rows other → answer ≡ other }
+    ensures { (profile : Profile) (past : ℕ) (rows : Rows) (answer other : Answer) → IsAnswer profile past rows answer → IsAnswer profile past rows other → answer ≡ other }
 {}
 
 /// Whatever the result of a judging up to the first break, what was written is a first part of the whole text of the report.
@@ -76,20 +76,20 @@ pub fn first_part_of_the_text()
 /// Who may touch the deck explains no less: a yes without hands is the same yes with them, and where both are a no, that
 /// with hands is at no earlier record.
 pub fn hands_judge_no_harder()
-    ensures yes { (rate : Rate) (deck : Option ADeck) (rows : Rows) (records exchanges tail : ℕ) → IsAnswer (record { rate = rate; hands = Hands.None; deck = deck }) rows (judged (Verdict.Yes records exchanges tail))
-        → IsAnswer (record { rate = rate; hands = Hands.Allowed; deck = deck }) rows (judged (Verdict.Yes records exchanges tail)) }
-    ensures no { (rate : Rate) (deck : Option ADeck) (rows : Rows) (at other : ℕ) (reason another : Reason) → IsAnswer (record { rate = rate; hands = Hands.None; deck = deck }) rows (judged (Verdict.No at reason))
-        → IsAnswer (record { rate = rate; hands = Hands.Allowed; deck = deck }) rows (judged (Verdict.No other another)) → at ≤ other }
+    ensures yes { (rate : Rate) (deck : Option ADeck) (past : ℕ) (rows : Rows) (records exchanges tail : ℕ) → IsAnswer (record { rate = rate; hands = Hands.None; deck = deck }) past rows (judged (Verdict.Yes records exchanges tail))
+        → IsAnswer (record { rate = rate; hands = Hands.Allowed; deck = deck }) past rows (judged (Verdict.Yes records exchanges tail)) }
+    ensures no { (rate : Rate) (deck : Option ADeck) (past : ℕ) (rows : Rows) (at other : ℕ) (reason another : Reason) → IsAnswer (record { rate = rate; hands = Hands.None; deck = deck }) past rows (judged (Verdict.No at reason))
+        → IsAnswer (record { rate = rate; hands = Hands.Allowed; deck = deck }) past rows (judged (Verdict.No other another)) → at ≤ other }
 {}
 
 /// A deck at which each command does no more than at another and takes no more replies, and that has no more modes on the way to
 /// each goal, is held to no less: its yes is the same yes of the other, and where both are a no, that of the other is at no earlier
 /// record.
 pub fn a_sheet_that_allows_less_judges_no_easier()
-    ensures yes { (p : Profile) (less more : Option ADeck) (rows : Rows) (records exchanges tail : ℕ) → ForgetsNoMore p less more → TakesNoMore p.rate (replies_of less) (replies_of more) → PassesNoMore less more
-        → IsAnswer (record p { deck = less }) rows (judged (Verdict.Yes records exchanges tail)) → IsAnswer (record p { deck = more }) rows (judged (Verdict.Yes records exchanges tail)) }
-    ensures no { (p : Profile) (less more : Option ADeck) (rows : Rows) (at other : ℕ) (reason another : Reason) → ForgetsNoMore p less more → TakesNoMore p.rate (replies_of less) (replies_of more) → PassesNoMore less more
-        → IsAnswer (record p { deck = less }) rows (judged (Verdict.No at reason)) → IsAnswer (record p { deck = more }) rows (judged (Verdict.No other another)) → at ≤ other }
+    ensures yes { (p : Profile) (less more : Option ADeck) (past : ℕ) (rows : Rows) (records exchanges tail : ℕ) → ForgetsNoMore p less more → TakesNoMore p.rate (replies_of less) (replies_of more) → PassesNoMore less more
+        → IsAnswer (record p { deck = less }) past rows (judged (Verdict.Yes records exchanges tail)) → IsAnswer (record p { deck = more }) past rows (judged (Verdict.Yes records exchanges tail)) }
+    ensures no { (p : Profile) (less more : Option ADeck) (past : ℕ) (rows : Rows) (at other : ℕ) (reason another : Reason) → ForgetsNoMore p less more → TakesNoMore p.rate (replies_of less) (replies_of more) → PassesNoMore less more
+        → IsAnswer (record p { deck = less }) past rows (judged (Verdict.No at reason)) → IsAnswer (record p { deck = more }) past rows (judged (Verdict.No other another)) → at ≤ other }
 {}
 
 /// Where judging begins at record 1 and nothing breaks, the totals are the counts of a yes, and no record is passed over.
@@ -127,25 +127,25 @@ pub fn one_list_of_parts()
 pub fn the_first_break_is_the_verdict()
     ensures late { (profile : Profile) (items after : List LineByte) (part : Part) (front more : List Event) (at : ℕ) (asked : List LineByte) (r : LineByte)
         → items ≡ part.records ++ after → part.past ≡ 0 → IsPart (in_parts profile) part → part.events ≡ front ++ late_reply at asked r ∷ more → late_replies front ≡ 0
-        → IsFirstBreak (counting profile) items at Reason.LateReply }
+        → IsFirstBreak (counting profile) 0 items at Reason.LateReply }
     ensures end { (profile : Profile) (items : List LineByte) (b : BrokenPart) (broken : List BrokenPart) (left : Rest)
         → AreParts (in_parts profile) (record { past = 0; records = items }) (b ∷ broken) left → late_replies b.part.events ≡ 0
-        → IsFirstBreak (counting profile) items (number_of b) (if b.late then Reason.LateReply else b.reason) }
+        → IsFirstBreak (counting profile) 0 items (number_of b) (if late_replies b.events == 0 then b.reason else Reason.LateReply) }
 {}
 
-/// Where the reply limit is left aside, each part that breaks is the no of a capture that begins with its first record, its number
-/// moved by how many come before it; the first is the no of the whole capture. A part of which no reply is late before its end is
-/// also the no of that capture as it is judged up to the first break, where the limit counts.
+/// Where the reply limit is left aside, each part that breaks is the no of the capture from its first record on, with the number that
+/// the record has in the whole; the first is the no of the whole capture. A part of which no reply is late before its end is also the
+/// no of these records as they are judged up to the first break, where the limit counts.
 pub fn each_part_is_a_no()
     ensures each { (profile : Profile) (items : List LineByte) (broken : List BrokenPart) (left : Rest)
         → AreParts (in_parts profile) (record { past = 0; records = items }) broken left
-        → All (λ b. IsFirstBreak (in_parts profile) (drop b.part.past items) (length b.part.records + 1) b.reason) broken }
+        → All (λ b. IsFirstBreak (in_parts profile) b.part.past (drop b.part.past items) (number_of b) b.reason) broken }
     ensures in_time { (profile : Profile) (items : List LineByte) (broken : List BrokenPart) (left : Rest)
         → AreParts (in_parts profile) (record { past = 0; records = items }) broken left
         → All (λ b. late_replies b.part.events ≡ 0
-        → IsFirstBreak (counting profile) (drop b.part.past items) (length b.part.records + 1) (if b.late then Reason.LateReply else b.reason)) broken }
+        → IsFirstBreak (counting profile) b.part.past (drop b.part.past items) (number_of b) (if late_replies b.events == 0 then b.reason else Reason.LateReply)) broken }
     ensures first { (profile : Profile) (items : List LineByte) (b : BrokenPart) (broken : List BrokenPart) (left : Rest)
-        → AreParts (in_parts profile) (record { past = 0; records = items }) (b ∷ broken) left → IsFirstBreak (in_parts profile) items (number_of b) b.reason }
+        → AreParts (in_parts profile) (record { past = 0; records = items }) (b ∷ broken) left → IsFirstBreak (in_parts profile) 0 items (number_of b) b.reason }
 {}
 
 /// How long after its command a reply begins decides whether it is late, and nothing else. Where the records of a capture come at

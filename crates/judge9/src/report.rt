@@ -69,6 +69,7 @@ use std::io::{Read, Write};
 /// * A fault of the text is at row 0 exactly where it is the header's, at row 4,000,001 exactly where that is a
 ///   row too many, and else between; a read fault is at row 4,000,001 at most. No `Capture` has the kind
 ///   `OutOfMemory`.
+#[inline(never)] // else its loop is compiled with what else a program does with a capture in one function, and worse
 pub fn judge_for<R: Read + Drop, W: Write>(
     alloc: Global,
     reader: R,

@@ -105,7 +105,7 @@ impl<'a> Breaks<'a> {
         self.reasons
             .count(broken.reason, asked_at(self.profile, &why))?;
         let is_second = match &self.run {
-            Some(run) => run.last_at() == broken.at,
+            Some(run) => run.last_at == broken.at,
             None => false,
         };
         let id = BreakId {
@@ -200,7 +200,7 @@ impl<'a> Breaks<'a> {
     /// The first break or late reply.
     pub(crate) fn first(&self) -> Option<FirstBreak<'_>> {
         let first = self.listed.first()?;
-        let broken = first.run.first();
+        let broken = &first.run.first;
         Some(FirstBreak {
             id: first.id,
             at: broken.at,

@@ -27,6 +27,8 @@ enum DelayLine {
 #[derive(Drop)]
 struct Steps {
     heights: Vec<Option<u64>>,
+    /// How wide a bin is, in microseconds.
+    width_us: u64,
 }
 
 /// Puts how many exchanges there were a second.
@@ -42,15 +44,8 @@ pub(crate) fn put_traffic(html: &mut Markup, span: Span, bins: &DrawnBins) -> Do
     html.put_mark("Traffic: exchanges a second over time, at most ");
     put_rate(html, greatest);
     html.put_mark("</title><use href=\"#g\"/>\n");
-    put_steps(
-        html,
-        span,
-        bins.width_us,
-        &steps,
-        "traf",
-        Some(TRAFFIC_TALL),
-    );
-    put_steps(html, span, bins.width_us, &steps, "tline", None);
+    put_steps(html, span, &steps, "traf", Some(TRAFFIC_TALL));
+    put_steps(html, span, &steps, "tline", None);
     html.put_mark("</svg></div>\n<div class=\"scale\"><span class=\"top\">");
     put_rate(html, most);
     html.put_mark("</span><span class=\"foot\">0</span></div></div>\n");
@@ -95,7 +90,10 @@ fn traffic_steps(
 ) -> Result<Steps, AllocError> {
     let mut heights = Vec::new(alloc);
     push_traffic(&mut heights, bins, lasts_us, most)?;
-    Ok(Steps { heights })
+    Ok(Steps {
+        heights,
+        width_us: bins.width_us,
+    })
 }
 
 /// Pushes the heights of the traffic.
@@ -156,16 +154,9 @@ pub(crate) fn put_delay_lane(
 fn put_delay_lines(html: &mut Markup, span: Span, bins: &DrawnBins) -> Done {
     let greatest = delay_steps(html.alloc(), bins, DelayLine::Greatest)?;
     let middle = delay_steps(html.alloc(), bins, DelayLine::Middle)?;
-    put_steps(
-        html,
-        span,
-        bins.width_us,
-        &greatest,
-        "great",
-        Some(DELAYS_TALL),
-    );
-    put_steps(html, span, bins.width_us, &greatest, "gline", None);
-    put_steps(html, span, bins.width_us, &middle, "mid", None);
+    put_steps(html, span, &greatest, "great", Some(DELAYS_TALL));
+    put_steps(html, span, &greatest, "gline", None);
+    put_steps(html, span, &middle, "mid", None);
     begin_path(html, "limit");
     html.put_mark("M0 ");
     html.put_fixed(delay_y(REPLY_LIMIT_US), 1);
@@ -178,7 +169,10 @@ fn put_delay_lines(html: &mut Markup, span: Span, bins: &DrawnBins) -> Done {
 fn delay_steps(alloc: Global, bins: &DrawnBins, line: DelayLine) -> Result<Steps, AllocError> {
     let mut heights = Vec::new(alloc);
     push_delays(&mut heights, bins, line)?;
-    Ok(Steps { heights })
+    Ok(Steps {
+        heights,
+        width_us: bins.width_us,
+    })
 }
 
 /// Pushes the heights of delays.
@@ -204,14 +198,7 @@ fn delay_y(delay_us: u64) -> u64 {
 }
 
 /// Puts a line in steps over the bins that have a height, or where there is a foot the area between.
-fn put_steps(
-    html: &mut Markup,
-    span: Span,
-    width_us: u64,
-    steps: &Steps,
-    look: &'static str,
-    foot: Option<u64>,
-) {
+fn put_steps(html: &mut Markup, span: Span, steps: &Steps, look: &'static str, foot: Option<u64>) {
     begin_path(html, look);
     let mut is_open = false;
     let mut from_us = 0u64;
@@ -223,7 +210,7 @@ fn put_steps(
             end_step(html, span, from_us, foot);
         }
         is_open = height.is_some();
-        from_us = from_us.saturating_add(width_us);
+        from_us = from_us.saturating_add(steps.width_us);
     }
     if is_open {
         end_step(html, span, span.lasts_us(), foot);

@@ -11,9 +11,9 @@ use crate::touches::Touches;
 use block9::Reason;
 use deck9::Profile;
 use picture9::Done;
-use report9::{Beginning, JudgeError, Stretch, Totals, WhyNo};
+use report9::{JudgeError, Totals, WhyNo};
 use std::alloc::Global;
-use view9::{Ending, ExplainedView, SeenBreak, SeenExchange, SeenLate, Strength, View};
+use view9::{Ending, ExplainedView, SeenBreak, SeenExchange, Strength, View, ViewOf};
 
 /// What the sections of the page have so far.
 #[derive(Drop)]
@@ -41,22 +41,17 @@ const NOTHING: Totals = Totals {
 };
 
 impl<'a> Following<'a> {
-    /// Of nothing yet, of a deck that is taken for this.
-    pub(crate) fn new(
-        alloc: Global,
-        window: Window,
-        stretch: Stretch,
-        profile: &'a Profile,
-        beginning: Beginning,
-    ) -> Following<'a> {
+    /// Of nothing yet, of what is shown in this window.
+    pub(crate) fn new(alloc: Global, window: Window, of: ViewOf<'a>) -> Following<'a> {
+        let profile = of.profile;
         Following {
             profile,
             session: Session::new(alloc, window, profile),
-            breaks: Breaks::new(alloc, profile, beginning),
+            breaks: Breaks::new(alloc, profile, of.scope.beginning),
             happened: Happened::new(alloc, profile),
             delays: DelayTable::new(alloc, profile),
             look: Look::new(alloc, profile),
-            touches: Touches::new(alloc, window, stretch, profile),
+            touches: Touches::new(alloc, window, of.stretch, profile),
             strength: Strength::new(alloc, profile),
             totals: NOTHING,
             why: None,
@@ -95,7 +90,7 @@ impl<'a> Following<'a> {
 }
 
 impl ExplainedView for Following<'_> {
-    fn why(&mut self, why: WhyNo) -> Result<(), JudgeError> {
+    fn why(&mut self, why: WhyNo, _is_shown: bool) -> Result<(), JudgeError> {
         self.why = Some(why);
         Ok(())
     }
@@ -115,22 +110,15 @@ impl View for Following<'_> {
         Ok(())
     }
 
-    fn late(&mut self, late: &SeenLate) -> Result<(), JudgeError> {
+    fn late(&mut self, late: &SeenBreak) -> Result<(), JudgeError> {
         if !late.is_shown {
             return Ok(());
         }
-        if let Some(why) = &self.why {
+        if let (Some(why), Some(delay_us)) = (&self.why, late.delay_us) {
             let asked = asked_at(self.profile, why);
-            self.delays.late(asked, late.delay_us)?;
+            self.delays.late(asked, delay_us)?;
         }
-        Ok(self.take_break(&SeenBreak {
-            at: late.at,
-            time_us: late.time_us,
-            reason: Reason::LateReply,
-            open: None,
-            delay_us: Some(late.delay_us),
-            is_shown: true,
-        })?)
+        Ok(self.take_break(late)?)
     }
 
     fn broken(&mut self, broken: &SeenBreak) -> Result<(), JudgeError> {

@@ -245,12 +245,12 @@ impl<'a> Happened<'a> {
 impl Run {
     /// Puts their line.
     fn put(&self, line: &mut Markup) {
-        let first = self.breaks.first();
+        let first = &self.breaks.first;
         begin_line(line, "broken", first.time_us, first.at);
         begin_link(line, self.id);
         put_reason(line, first.reason);
         end_link(line, self.id);
-        if self.breaks.breaks() > 1 {
+        if self.breaks.breaks > 1 {
             line.put_mark(", ");
             put_run(line, &self.breaks);
         }

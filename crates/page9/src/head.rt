@@ -20,6 +20,8 @@ pub(crate) struct Told<'a> {
     pub(crate) strength: &'a Strength<'a>,
     /// The reasons, the most frequent first.
     pub(crate) reasons: &'a [ReasonCount],
+    /// The signs of what is wrong with the tap, the rate or the wires.
+    pub(crate) signs: &'a [Option<Sign>],
     /// From when to when the capture is, where it has a record.
     pub(crate) whole: Option<Span>,
     /// From when to when it is shown.
@@ -55,7 +57,6 @@ pub(crate) fn put_head(
     page: &PageOf<'_>,
     profile: &Profile,
     told: &Told<'_>,
-    signs: &[Option<Sign>],
     options: &[u8],
 ) {
     let breaks = told.breaks.count();
@@ -70,7 +71,7 @@ pub(crate) fn put_head(
     html.put_mark("</h1>\n<p class=\"lead\">");
     put_lead(html, told);
     html.put_mark("</p>\n");
-    put_signs(html, signs);
+    put_signs(html, told.signs);
     put_facts(html, told);
     put_judged_with(html, page, profile, options);
     html.put_mark(

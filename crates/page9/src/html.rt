@@ -122,11 +122,11 @@ impl BreakId {
 
 /// Puts how many equal breaks in a row there are, and which record is the last, with its time.
 pub(crate) fn put_run(html: &mut Markup, run: &BreakRun) {
-    html.put_thousands(u64::from(run.breaks()));
+    html.put_thousands(u64::from(run.breaks));
     html.put_mark(" in a row, the last at record ");
-    html.put_thousands(u64::from(run.last_at()));
+    html.put_thousands(u64::from(run.last_at));
     html.put_mark(", ");
-    put_clock(html, run.last_us());
+    put_clock(html, run.last_us);
 }
 
 /// Puts the head of a link to a break, where it is listed.

@@ -114,18 +114,18 @@ fn put_ignored(html: &mut Markup, strength: &Strength<'_>) -> Done {
 
 /// Puts after which commands fields were known no more, where there are some.
 fn put_lapses(html: &mut Markup, strength: &Strength<'_>) {
-    let commands = strength.lapses();
-    if commands == 0 {
+    let lapses = strength.lapses();
+    if lapses.is_empty() {
         return;
     }
     html.put_mark("<ul class=\"lapses\">\n");
-    for place in 0..commands.min(MOST_LISTED) {
+    for (called, fields) in lapses.iter().take(MOST_LISTED) {
         html.put_mark("<li>");
-        html.put_with(|text| strength.put_lapse(text, place));
+        html.put_with(|text| view9::put_lapses(text, *called, fields));
         html.put_mark("</li>\n");
     }
     html.put_mark("</ul>\n");
-    let others = commands.saturating_sub(MOST_LISTED) as u64;
+    let others = lapses.len().saturating_sub(MOST_LISTED) as u64;
     put_rest(
         html,
         others,

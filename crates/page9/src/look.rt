@@ -52,13 +52,11 @@ impl<'a> Look<'a> {
 
     /// Takes the lines of what ended.
     fn take_lines(&mut self) -> Result<(), AllocError> {
-        for place in 0..self.motion.lines() {
-            if let Some(line) = self.motion.line(place) {
-                if line.is_worth {
-                    self.worth.take(&line)?;
-                } else {
-                    self.commands.take(&line)?;
-                }
+        for line in self.motion.lines() {
+            if line.is_worth {
+                self.worth.take(line)?;
+            } else {
+                self.commands.take(line)?;
             }
         }
         Ok(())
@@ -116,7 +114,7 @@ impl<'a> Look<'a> {
     /// Puts the table of the responses, where a command with a mode of its own was acknowledged.
     fn put_responses(&self, html: &mut Markup) {
         let outcomes = self.motion.outcomes();
-        if outcomes.len() == 0 {
+        if outcomes.is_empty() {
             return;
         }
         put_table_head(
@@ -124,10 +122,8 @@ impl<'a> Look<'a> {
             "Transport command|Acknowledged|Mode shown|Never shown|Slowest, s|at record",
             false,
         );
-        for place in 0..outcomes.len() {
-            if let Some((called, outcome)) = outcomes.get(place) {
-                put_outcome(html, called, &outcome);
-            }
+        for (called, outcome) in outcomes.iter() {
+            put_outcome(html, *called, outcome);
         }
         html.put_mark("</tbody></table></div>\n");
     }
@@ -143,14 +139,14 @@ impl Listed {
     }
 
     /// Takes a line.
-    fn take(&mut self, line: &MotionLine<'_>) -> Done {
+    fn take(&mut self, line: &MotionLine) -> Done {
         self.count = self.count.saturating_add(1);
         if self.lines.len() >= MOST_LISTED {
             return Ok(());
         }
         let mut html = Markup::new(*self.lines.allocator());
         begin_line(&mut html, "", line.place.time_us, line.place.record);
-        html.put_foreign(line.text);
+        html.put_foreign(line.text.as_slice());
         end_line(&mut html);
         self.lines.push(html)?;
         Ok(())

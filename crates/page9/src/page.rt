@@ -15,7 +15,7 @@ use picture9::{Done, Markup};
 use report9::{Beginning, Extent, JudgeError, Scope, Stretch, write_all};
 use std::alloc::Global;
 use std::io::{Read, Write};
-use view9::{Ending, show_explained};
+use view9::{Ending, ViewOf, show_explained};
 
 /// What a page is made of, beside the judging.
 #[derive(Clone, Copy)]
@@ -73,12 +73,16 @@ pub fn write_page<R: Read + Drop, W: Write>(
         drawn,
     } = readings;
     let window = window_of(first_time(alloc, first)?, page.stretch);
-    let scope = Scope {
-        extent: Extent::WholeCapture,
-        beginning: page.beginning,
+    let of = ViewOf {
+        scope: Scope {
+            extent: Extent::WholeCapture,
+            beginning: page.beginning,
+        },
+        stretch: page.stretch,
+        profile,
     };
-    let mut following = Following::new(alloc, window, page.stretch, profile, page.beginning);
-    let ending = show_explained(alloc, judged, &mut following, scope, page.stretch, profile)?;
+    let mut following = Following::new(alloc, window, of);
+    let ending = show_explained(alloc, judged, &mut following, of)?;
     write_followed(alloc, drawn, writer, page, &mut following)?;
     Ok(ending)
 }
@@ -173,11 +177,12 @@ fn put_page(
         breaks: &following.breaks,
         strength: &following.strength,
         reasons: reasons.as_slice(),
+        signs: &found.signs,
         whole: found.span_in(Window::ALL),
         shown,
     };
     put_title(html, page, following.breaks.count());
-    put_head(html, page, profile, &told, &found.signs, again.options);
+    put_head(html, page, profile, &told, again.options);
     let touches = &following.touches;
     following
         .session

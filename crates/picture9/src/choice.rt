@@ -1,14 +1,12 @@
 //! Which break of a capture is drawn.
-ghost use Rattle.judge9.specs.History.{nothing_told};
-ghost use Rattle.judge9.specs.Standing.{CanGoOn, Stands};
 
+use crate::picture::Wanted;
 use block9::Reason;
 use deck9::Profile;
-use judge9::{Event, Judging, Kept};
-use report9::{Extent, JudgeError, Scope, WhyNo};
+use report9::{Extent, JudgeError, Stretch, WhyNo};
 use std::alloc::Global;
 use std::io::Read;
-use view9::Ending;
+use view9::{Ending, ExplainedView, View, ViewOf, show_explained};
 
 /// A break that ended a part.
 #[derive(Clone, Copy)]
@@ -37,56 +35,32 @@ pub(crate) struct Choice {
 pub(crate) fn choose<R: Read + Drop>(
     alloc: Global,
     reader: R,
-    scope: Scope,
     profile: &Profile,
-    wanted: Option<u32>,
+    wanted: &Wanted,
 ) -> Result<(Choice, Ending), JudgeError> {
-    let mut judging = Judging::new(alloc, reader, scope, profile)?;
     let mut choice = Choice {
-        wanted,
+        wanted: wanted.at,
         is_broken: false,
         why: None,
         before: None,
         ended_at: None,
     };
-    let followed = follow_events(alloc, &mut judging, &mut choice);
-    let ending = match scope.extent {
-        Extent::FirstBreak => Ending::Verdict(judging.verdict()),
-        Extent::WholeCapture => Ending::Totals(judging.totals()),
+    let of = ViewOf {
+        scope: wanted.scope,
+        stretch: Stretch::ALL,
+        profile,
     };
-    drop(judging);
-    followed?;
+    let ending = show_explained(alloc, reader, &mut choice, of)?;
     Ok((choice, ending))
 }
 
-/// Follows all events up to the end.
-fn follow_events<R: Read + Drop>(
-    alloc: Global,
-    judging: &mut Judging<R>,
-    choice: &mut Choice,
-) -> Result<(), JudgeError>
-    requires stands { Stands judging.old.scope judging.old.profile.now judging.old.feed.rows.rows nothing_told judging.old }
-    requires ready { CanGoOn judging.old.stage judging.old.feed }
-{
-    let mut kept = Kept::new(alloc);
-    'events: loop {
-        match judging.next()? {
-            Event::End => return Ok(()),
-            event => {
-                let why = kept.follow(alloc, judging, event)?;
-                choice.take(judging.at(), event, why);
-            }
-        }
-    }
-}
+impl View for Choice {}
 
-impl Choice {
-    /// Takes an event, which came at this record, and why it is a break, where it is one.
-    fn take(&mut self, at: u32, event: Event, why: Option<WhyNo>) {
-        let reason = match event {
-            Event::LateReply(_) => Reason::LateReply,
-            Event::Break(broken) => broken.reason,
-            Event::Exchange | Event::End => return,
+impl ExplainedView for Choice {
+    fn why(&mut self, why: WhyNo, _is_shown: bool) -> Result<(), JudgeError> {
+        let (at, reason) = match &why {
+            WhyNo::Break { at, reason, .. } => (*at, *reason),
+            WhyNo::Contradiction { at, .. } => (*at, Reason::NoRun),
         };
         self.is_broken = true;
         let is_late = reason == Reason::LateReply;
@@ -95,12 +69,15 @@ impl Choice {
                 self.ended_at = Some(at);
             }
         } else if self.wanted.unwrap_or(at) == at {
-            self.why = why;
+            self.why = Some(why);
         } else if !is_late {
             self.before = Some(Broke { at, reason });
         }
+        Ok(())
     }
+}
 
+impl Choice {
     /// The last record that was judged of the part in which the chosen break is, at this record by this reason. A late reply ends no
     /// part where the whole capture is judged.
     pub(crate) fn judged_to(&self, extent: Extent, at: u32, reason: Reason) -> u32 {

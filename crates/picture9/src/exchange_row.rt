@@ -6,8 +6,8 @@ use block9::Exchange;
 use capture9::{GREATEST_LIMIT, LineByte, Records};
 use deck9::Profile;
 use report9::{
-    JudgeError, TextBuffer, put_command_sent, put_exchange, put_exchange_records, put_reply_sent,
-    put_text, time_told,
+    JudgeError, TextBuffer, WhyNo, put_command_sent, put_exchange, put_exchange_records,
+    put_reply_sent, put_text, time_told,
 };
 use std::alloc::{AllocError, Global};
 use std::io::Read;
@@ -46,19 +46,26 @@ impl ExchangeRow {
     }
 }
 
-/// The rows of the exchanges at these places, whose records are read of the whole capture. The last of all exchanges ends
-/// with the record of the number `at`, which breaks.
+/// The rows of the exchanges that contradict one another, whose records are read of the whole capture; none of a break. The last of all
+/// exchanges ends with the record that breaks.
 pub(crate) fn rows_of<R: Read + Drop>(
     alloc: Global,
     reader: R,
     profile: &Profile,
-    at: u32,
-    exchanges: &[Exchange],
-    places: &[usize],
+    why: &WhyNo,
 ) -> Result<Vec<ExchangeRow>, JudgeError> {
     let mut rows = Vec::new(alloc);
+    let WhyNo::Contradiction {
+        at,
+        exchanges,
+        places,
+        ..
+    } = why
+    else {
+        return Ok(rows);
+    };
     let mut reading = Records::new(alloc, reader, GREATEST_LIMIT);
-    let mut last = first_before(at, exchanges);
+    let mut last = first_before(*at, exchanges.as_slice());
     for (place, exchange) in exchanges.iter().enumerate() {
         let first = last.saturating_add(1);
         last = last.saturating_add(exchange.records() as u32);
@@ -71,7 +78,7 @@ pub(crate) fn rows_of<R: Read + Drop>(
                 says: says_of(alloc, profile, exchange)?,
                 command_len: exchange.block.bytes.len() + 3,
                 records: read_records(alloc, &mut reading, first, last)?,
-                breaks: last == at,
+                breaks: last == *at,
             };
             rows.push(row).map_err(AllocError::from)?;
         }

@@ -17,9 +17,11 @@ use std::alloc::Global;
 use std::io::{Read, Write};
 use view9::Ending;
 
-/// What is asked of a picture besides the judging.
+/// What is asked of a picture.
 #[derive(Clone, Copy, Debug, PartialEq, Eq)]
 pub struct Wanted {
+    /// How far the capture is judged, and from where on.
+    pub scope: Scope,
     /// The number of the record whose break is drawn; none where the first break is.
     pub at: Option<u32>,
     /// How wide the picture may be, in pixels. It is 700 at least, and wider where what breaks the rule would not fit.
@@ -66,22 +68,21 @@ pub fn write_picture<R: Read + Drop, W: Write>(
     alloc: Global,
     capture: Twice<R>,
     writer: &mut W,
-    scope: Scope,
     profile: &Profile,
     wanted: &Wanted,
 ) -> Result<Drawn, JudgeError> {
     let Twice { first, second } = capture;
-    let (choice, ending) = choose(alloc, first, scope, profile, wanted.at)?;
-    let Some(svg) = draw(alloc, second, scope, profile, wanted.width, &choice)? else {
-        return Ok(Drawn::Nothing(why_nothing(&choice, scope.extent, wanted.at)));
+    let (choice, ending) = choose(alloc, first, profile, wanted)?;
+    let Some(svg) = draw(alloc, second, profile, wanted, &choice)? else {
+        return Ok(Drawn::Nothing(why_nothing(&choice, wanted)));
     };
     write_all(writer, svg.whole()?)?;
     Ok(Drawn::Picture(ending))
 }
 
 /// Why there is nothing to draw.
-fn why_nothing(choice: &Choice, extent: Extent, at: Option<u32>) -> WhyNothing {
-    match (choice.is_broken, extent, at) {
+fn why_nothing(choice: &Choice, wanted: &Wanted) -> WhyNothing {
+    match (choice.is_broken, wanted.scope.extent, wanted.at) {
         (false, Extent::FirstBreak, _) => WhyNothing::Yes,
         (true, _, Some(at)) => WhyNothing::NoBreakAt(at),
         _ => WhyNothing::NoPartBreaks,
@@ -92,9 +93,8 @@ fn why_nothing(choice: &Choice, extent: Extent, at: Option<u32>) -> WhyNothing {
 fn draw<R: Read + Drop>(
     alloc: Global,
     reader: R,
-    scope: Scope,
     profile: &Profile,
-    width: u32,
+    wanted: &Wanted,
     choice: &Choice,
 ) -> Result<Option<Markup>, JudgeError> {
     let Some(why) = &choice.why else {
@@ -105,11 +105,11 @@ fn draw<R: Read + Drop>(
     };
     let asked = Asked {
         at: *at,
-        judged_to: choice.judged_to(scope.extent, *at, *reason),
+        judged_to: choice.judged_to(wanted.scope.extent, *at, *reason),
         before: choice.before,
-        beginning: scope.beginning,
+        beginning: wanted.scope.beginning,
     };
-    draw_break(alloc, reader, &asked, why, width)
+    draw_break(alloc, reader, &asked, why, wanted.width)
 }
 
 /// Draws the records around one that breaks a rule; nothing of a contradiction.
@@ -153,16 +153,14 @@ fn draw_contradiction<R: Read + Drop>(
 ) -> Result<Option<Markup>, JudgeError> {
     let WhyNo::Contradiction {
         at,
-        exchanges,
-        places,
         known,
         shown,
+        ..
     } = why
     else {
         return Ok(None);
     };
-    let (exchanges, places) = (exchanges.as_slice(), places.as_slice());
-    let rows = rows_of(alloc, reader, profile, *at, exchanges, places)?;
+    let rows = rows_of(alloc, reader, profile, why)?;
     let below = known_line(alloc, profile, known, *shown)?;
     let columns = Columns::of(rows.as_slice(), below.as_slice());
     let size = (columns.wide, columns.tall.saturating_add(44));

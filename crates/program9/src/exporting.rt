@@ -16,17 +16,6 @@ use std::alloc::{AllocError, Global};
 use std::io::{self, Read, Write};
 use words9::Export;
 
-/// A reader of a type of its own. With it `csv` reads tables by a function of their own, and that of captures has one caller: with
-/// another it would not be inlined there, which costs each record.
-#[derive(Drop)]
-struct Apart<R: Read + Drop>(R);
-
-impl<R: Read + Drop> Read for Apart<R> {
-    fn read(&mut self, place: &mut [u8]) -> io::Result<usize> {
-        self.0.read(place)
-    }
-}
-
 /// Makes a capture of the export that the reader gives, behind which the deck's file follows, where there is one: how that ends.
 #[inline(never)] // else the loops over records of the reports are compiled with it in one function, and worse
 pub(crate) fn convert<R: Read + Drop, W: Write + Drop>(
@@ -76,7 +65,7 @@ fn convert_export<R: Read + Drop, W: Write + Drop>(
                 from,
                 to,
             };
-            convert_saleae(alloc, Apart(reader), out, words)?;
+            convert_saleae(alloc, reader, out, words)?;
             Ok(None)
         }
         Export::Log => {

@@ -10,8 +10,8 @@ use crate::again::Again;
 use crate::buffered::Buffered;
 use crate::ending::Outcome;
 use crate::exporting::{convert, split};
-use crate::making::{draw, make, make_page, rewrite_times, tell_info, tell_touches};
-use crate::next::{hinted, is_worth_asking, reading};
+use crate::making::{draw, make, make_page, rewrite_times, tell_info, tell_touches, view_of};
+use crate::next::{Told, hinted, is_worth_asking, reading};
 use crate::status::{
     outcome, outcome_in_parts, outcome_kept, outcome_made, outcome_rewritten, outcome_told,
 };
@@ -87,8 +87,14 @@ pub fn judge_and_flush<
             let reader = reading(alloc, reader, view, &job.asked, &mut kept);
             let judged = judge_for(alloc, reader, out, view, beginning, &job.profile);
             let judged = ended(out, judged);
-            let (is_worth, end) = (is_worth_asking(&judged), outcome(&judged));
-            hinted(alloc, kept, view, scope, job.profile, is_worth, end)
+            let kept = kept.filter(|_| is_worth_asking(&judged));
+            let profile = job.profile;
+            let told = Told {
+                view,
+                scope,
+                profile,
+            };
+            hinted(alloc, kept, told, outcome(&judged))
         }
         Report::Parts(view) => {
             let scope = Scope {
@@ -99,10 +105,17 @@ pub fn judge_and_flush<
             let reader = reading(alloc, reader, view, &job.asked, &mut kept);
             let judged = judge_parts_for(alloc, reader, out, view, beginning, &job.profile);
             let end = outcome_in_parts(&ended(out, judged));
-            hinted(alloc, kept, view, scope, job.profile, true, end)
+            let profile = job.profile;
+            let told = Told {
+                view,
+                scope,
+                profile,
+            };
+            hinted(alloc, kept, told, end)
         }
         Report::Made(made, extent) => {
-            let judged = make(alloc, Again::Opened(reader), out, made, extent, &job);
+            let of = view_of(&job, extent);
+            let judged = make(alloc, Again::Opened(reader), out, made, of);
             outcome_made(&ended(out, judged))
         }
         Report::JsonRun => {

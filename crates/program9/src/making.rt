@@ -14,31 +14,38 @@ use report9::{Extent, JudgeError, Scope, TimeForm};
 use std::alloc::Global;
 use std::io::{BufReader, Read, Write};
 use view9::{
-    ClockFault, Ending, write_clock, write_delays, write_digest, write_json, write_motion,
+    ClockFault, Ending, ViewOf, write_clock, write_delays, write_digest, write_json, write_motion,
     write_touches,
 };
 use words9::{Made, VERSION_LINE};
 
-/// Judges the capture that the reader gives, so far, and writes what is made of it: how the judging ends.
+/// What a view of the job is made of, whose judging goes so far.
+pub(crate) fn view_of(job: &Job, extent: Extent) -> ViewOf<'_> {
+    let scope = Scope {
+        extent,
+        beginning: job.asked.beginning,
+    };
+    ViewOf {
+        scope,
+        stretch: job.asked.stretch,
+        profile: &job.profile,
+    }
+}
+
+/// Judges the capture that the reader gives, and writes what is made of it: how the judging ends.
 #[inline(never)] // else the loops over records of the reports are compiled with those of the views in one function, and worse
 pub(crate) fn make<R: Read + Drop, W: Write>(
     alloc: Global,
     reader: R,
     writer: &mut W,
     made: Made,
-    extent: Extent,
-    job: &Job,
+    of: ViewOf<'_>,
 ) -> Result<Ending, JudgeError> {
-    let (stretch, profile) = (job.asked.stretch, &job.profile);
-    let scope = Scope {
-        extent,
-        beginning: job.asked.beginning,
-    };
     match made {
-        Made::Digest => write_digest(alloc, reader, writer, scope, stretch, profile),
-        Made::Delays => write_delays(alloc, reader, writer, scope, stretch, profile),
-        Made::Motion => write_motion(alloc, reader, writer, scope, stretch, profile),
-        Made::Json(view) => write_json(alloc, reader, writer, view, scope, stretch, profile),
+        Made::Digest => write_digest(alloc, reader, writer, of),
+        Made::Delays => write_delays(alloc, reader, writer, of),
+        Made::Motion => write_motion(alloc, reader, writer, of),
+        Made::Json(view) => write_json(alloc, reader, writer, view, of),
     }
 }
 
@@ -50,7 +57,8 @@ pub(crate) fn tell_touches<R: Read + Drop, W: Write>(
     writer: &mut W,
     job: &Job,
 ) -> Result<Ending, JudgeError> {
-    write_touches(alloc, reader, writer, job.asked.beginning, &job.profile)
+    let of = view_of(job, Extent::FirstBreak);
+    write_touches(alloc, reader, writer, of)
 }
 
 /// Writes what the capture that the reader gives says of itself.
@@ -91,16 +99,16 @@ pub(crate) fn draw<R: Read + Drop, W: Write>(
         Ok(text) => text,
         Err(e) => return unkept(&e),
     };
-    let drawing = job.asked.drawing;
     let wanted = Wanted {
-        at: drawing.at,
-        width: drawing.width,
+        scope,
+        at: job.asked.drawing.at,
+        width: job.asked.drawing.width,
     };
     let capture = Twice {
         first: text_again::<R>(text.as_slice()),
         second: text_again::<R>(text.as_slice()),
     };
-    let drawn = write_picture(alloc, capture, writer, scope, &job.profile, &wanted)?;
+    let drawn = write_picture(alloc, capture, writer, &job.profile, &wanted)?;
     Ok(outcome_drawn(&drawn))
 }
 

@@ -28,6 +28,17 @@ use words9::Asked;
 const UNKEPT: &str =
     "next: ninecheck try asks at each frame rate, with and without a hand on the panel";
 
+/// What was told, and so what may be asked again.
+#[derive(Drop)]
+pub(crate) struct Told {
+    /// With which view.
+    pub(crate) view: View,
+    /// How far the capture was judged, and from where on.
+    pub(crate) scope: Scope,
+    /// What the deck was taken for.
+    pub(crate) profile: Profile,
+}
+
 /// Whether something is to be said after a report with this view: of `why`, unless that is to be quiet, or is watched while the capture
 /// grows.
 fn is_asked(view: View, asked: &Asked) -> bool {
@@ -62,21 +73,18 @@ pub(crate) fn is_worth_asking(judged: &Result<Verdict, JudgeError>) -> bool {
     }
 }
 
-/// The end after this one of a report with this view, whose judging went so far and was kept so, and after which it may be worth asking.
+/// The end after this one of a report. What was read for it is kept where it may be worth asking.
 #[inline(never)] // else the loops over records of the reports are compiled with those of other judgings in one function, and worse
 pub(crate) fn hinted<R: Read + Drop>(
     alloc: Global,
     kept: Option<Keeping<R>>,
-    view: View,
-    scope: Scope,
-    profile: Profile,
-    is_worth: bool,
+    told: Told,
     end: Outcome,
 ) -> Outcome
-    ensures { IsHinted view end result }
+    ensures { IsHinted told.view end result }
 {
-    match view {
-        View::Why => below_why(alloc, kept, scope, profile, is_worth, end),
+    match told.view {
+        View::Why => below_why(alloc, kept, told, end),
         View::Verdict => end,
         View::Explain(_) => end,
     }
@@ -86,9 +94,7 @@ pub(crate) fn hinted<R: Read + Drop>(
 fn below_why<R: Read + Drop>(
     alloc: Global,
     kept: Option<Keeping<R>>,
-    scope: Scope,
-    profile: Profile,
-    is_worth: bool,
+    told: Told,
     end: Outcome,
 ) -> Outcome
     ensures { IsHinted a_view.Why end result }
@@ -96,25 +102,20 @@ fn below_why<R: Read + Drop>(
     let Some(kept) = kept else {
         return end;
     };
-    if !is_worth || end.status != 1 {
+    if end.status != 1 {
         return end;
     }
     match end.message {
-        Message::Nothing => Outcome::new(end.status, said_next(alloc, kept, scope, profile)),
+        Message::Nothing => Outcome::new(end.status, said_next(alloc, kept, told)),
         _ => end,
     }
 }
 
 /// What is said of what to ask next.
-fn said_next<R: Read + Drop>(
-    alloc: Global,
-    kept: Keeping<R>,
-    scope: Scope,
-    profile: Profile,
-) -> Message
+fn said_next<R: Read + Drop>(alloc: Global, kept: Keeping<R>, told: Told) -> Message
     ensures { IsHint result }
 {
-    match line_of(alloc, kept, scope, profile) {
+    match line_of(alloc, kept, told) {
         Ok(line) => message_of(line),
         Err(_) => match String::from_str(alloc, UNKEPT) {
             Ok(line) => Message::Lines(line),
@@ -133,10 +134,10 @@ fn is_out_of_memory(answer: &Answer) -> bool {
 fn line_of<R: Read + Drop>(
     alloc: Global,
     kept: Keeping<R>,
-    scope: Scope,
-    profile: Profile,
+    told: Told,
 ) -> Result<Vec<u8>, JudgeError> {
     let mut kept = kept;
+    let Told { scope, profile, .. } = told;
     let mut line = Vec::new(alloc);
     match first_broken::<R>(alloc, kept.text()?, scope, &profile)? {
         None => {}

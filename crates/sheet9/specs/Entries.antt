@@ -5,26 +5,28 @@ use Rattle.toml.specs.Data.{Data, Members, no_members, member, as_table}
 use Rattle.sheet9.specs.declared.refusal.EntryFault.{EntryFault}
 use Rattle.sheet9.specs.declared.refusal.EntryFault.TheVariants.{NotTwoBytes, Reply, NamedTwice}
 use Rattle.sheet9.specs.declared.refusal.TableName.{TableName}
-use Rattle.sheet9.specs.Head.{head_named, is_reply}
+use Rattle.sheet9.specs.Head.{is_reply}
 use Rattle.sheet9.specs.Refusal.{Fault, NoTable, Entry, and_then}
 
--- a table whose keys name commands: its name, what is wrong with a command there, and what the value of a key says
+-- a table whose keys name commands: its name, the command that a key names, what is wrong with a command there, and what the value of a
+-- key says
 pub record CommandTable (A : Type 0) : Type 0 where
   pub name : TableName
+  pub named_by : List ℕ → Option ℕ
   pub unfit : ℕ → Option EntryFault
   pub value_of : List ℕ → Data → Result A Fault
 
 -- the command that a key names
-abbrev pub command_in : TableName → (ℕ → Option EntryFault) → List ℕ → Result ℕ Fault
-command_in name unfit key = named (head_named key)
+abbrev pub command_in : {A : Type 0} → CommandTable A → List ℕ → Result ℕ Fault
+command_in table key = named (table.named_by key)
   where
     fitting : ℕ → Option EntryFault → Result ℕ Fault
     fitting head None = Ok head
-    fitting head (Some fault) = Err (Entry name key fault)
+    fitting head (Some fault) = Err (Entry table.name key fault)
 
     named : Option ℕ → Result ℕ Fault
-    named None = Err (Entry name key NotTwoBytes)
-    named (Some head) = if is_reply head then Err (Entry name key Reply) else fitting head (unfit head)
+    named None = Err (Entry table.name key NotTwoBytes)
+    named (Some head) = if is_reply head then Err (Entry table.name key Reply) else fitting head (table.unfit head)
 
 -- what is said of a command
 abbrev pub said_at : {A : Type 0} → List (ℕ × A) → ℕ → Option A
@@ -38,7 +40,7 @@ with_entry name key said head value = if is_some (said_at said head) then Err (E
 abbrev pub entries_of : {A : Type 0} → CommandTable A → List (ℕ × A) → Members → Result (List (ℕ × A)) Fault
 entries_of table said no_members = Ok said
 entries_of table said (member key value rest) =
-    and_then (command_in table.name table.unfit key)
+    and_then (command_in table key)
     (λ head. and_then (table.value_of key value)
     (λ read. and_then (with_entry table.name key said head read) (λ more. entries_of table more rest)))
 

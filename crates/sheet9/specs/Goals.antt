@@ -10,6 +10,7 @@ use Rattle.sheet9.specs.declared.refusal.EntryFault.{EntryFault}
 use Rattle.sheet9.specs.declared.refusal.EntryFault.TheVariants.{EmptyModes, ForgetsMore, HasEffect, NoModes, NotOfTransport}
 use Rattle.sheet9.specs.declared.refusal.TableName.TheVariants.{Goals}
 use Rattle.sheet9.specs.Entries.{CommandTable, command_in, with_entry}
+use Rattle.sheet9.specs.Head.{head_named}
 use Rattle.sheet9.specs.Passes.{with_names}
 use Rattle.sheet9.specs.Refusal.{Fault, NoTable, Entry, and_then}
 
@@ -25,7 +26,7 @@ modes_in key (Some names) = with_names Goals key (modes 0) names
 
 -- what an entry says by itself
 abbrev pub goals_table : CommandTable ModeSet
-goals_table = record { name = Goals; unfit = unfit_goal; value_of = λ key value. modes_in key (as_array value) }
+goals_table = record { name = Goals; named_by = head_named; unfit = unfit_goal; value_of = λ key value. modes_in key (as_array value) }
 
 -- such a command forgets nothing else but the registers
 abbrev pub goes_with : Option Forgotten → Bool
@@ -43,7 +44,7 @@ unless_more key forgotten goals = if goes_with forgotten then Ok goals else Err 
 abbrev pub goals_of : (ℕ → Option Forgotten) → List (ℕ × ModeSet) → Members → Result (List (ℕ × ModeSet)) Fault
 goals_of forgotten said no_members = Ok said
 goals_of forgotten said (member key value rest) =
-    and_then (command_in Goals unfit_goal key)
+    and_then (command_in goals_table key)
     (λ head. and_then (modes_in key (as_array value))
     (λ read. and_then (unless_more key (forgotten head) read)
     (λ goals. and_then (with_entry Goals key said head goals) (λ more. goals_of forgotten more rest))))

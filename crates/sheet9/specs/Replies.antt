@@ -1,4 +1,4 @@
--- What the table [replies] says: which forms of reply some commands take.
+-- What the table [replies] says: which forms of reply some commands take, and some selectors of CURRENT TIME SENSE.
 use Rattle.std.specs.Prelude.{ℕ, ◌==◌, if◌then◌else◌, List, [], ◌∷◌, ◌++◌, Option, Some, None, option_map, Result, Ok, Err}
 use Rattle.toml.specs.Data.{Items, no_items, item, as_array, as_str}
 use Rattle.capture9.specs.declared.line_byte.Wire.TheVariants.{Deck}
@@ -9,6 +9,7 @@ use Rattle.sheet9.specs.declared.refusal.EntryFault.TheVariants.{NoReplies, Empt
 use Rattle.sheet9.specs.declared.refusal.ItemFault.TheVariants.{NoReply, Command}
 use Rattle.sheet9.specs.declared.refusal.TableName.TheVariants.{Replies}
 use Rattle.sheet9.specs.Entries.{CommandTable}
+use Rattle.sheet9.specs.Head.{head_or_selector}
 use Rattle.sheet9.specs.Refusal.{Fault, Entry, Item, and_then}
 
 -- a form of reply of these parts
@@ -50,6 +51,7 @@ forms_in key (Some items) = with_forms key [] items
 abbrev pub replies_table : CommandTable (List ReplyForm)
 replies_table = record {
   name = Replies;
+  named_by = head_or_selector;
   unfit = λ head. None;
   value_of = λ key value. forms_in key (as_array value);
 }

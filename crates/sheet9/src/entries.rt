@@ -4,7 +4,7 @@ ghost use Rattle.toml.specs.View.{table_view, view};
 ghost use Rattle.sheet9.specs.Entries.{CommandTable, command_in, entries_of, table_of};
 ghost use Rattle.sheet9.specs.Working.{HasSaid, ReportsWithoutLine};
 
-use crate::head::{head_named, is_reply};
+use crate::head::is_reply;
 use crate::refusal::{EntryFault, Refusal, SheetError, TableName};
 use std::alloc::Global;
 use std::collections::BTreeMap;
@@ -21,6 +21,10 @@ pub(crate) trait EntryValue: Drop + Sized {
     /// The table.
     fn table_name() -> TableName
         ensures { result ≡ table.name };
+
+    /// The command that a key names, by its head, or, in a table that takes selectors, by its head and a selector.
+    fn named_by(key: &[u8]) -> Option<u32>
+        ensures { result ≡ table.named_by key.now };
 
     /// What is wrong with a command in the table, by its head.
     fn unfit(head: u32) -> Option<EntryFault>
@@ -76,12 +80,12 @@ fn read_entries<V: EntryValue>(
     Ok(said)
 }
 
-/// The command that a key names, by its head.
+/// The command that a key names.
 pub(crate) fn command_in<V: EntryValue>(alloc: Global, key: &str) -> Result<u32, SheetError>
-    ensures ok { IfOk result (λ head. command_in V.table.name V.table.unfit key.now ≡ Ok head) }
-    ensures err { IfErr result (ReportsWithoutLine (command_in V.table.name V.table.unfit key.now)) }
+    ensures ok { IfOk result (λ head. command_in V.table key.now ≡ Ok head) }
+    ensures err { IfErr result (ReportsWithoutLine (command_in V.table key.now)) }
 {
-    let fault = match head_named(key.as_bytes()) {
+    let fault = match V::named_by(key.as_bytes()) {
         None => EntryFault::NotTwoBytes,
         Some(head) if is_reply(head) => EntryFault::Reply,
         Some(head) => match V::unfit(head) {

@@ -1,7 +1,10 @@
-//! The command that a key names, by the first two bytes of its block as one number: its head. And hexadecimal digits.
+//! The command that a key names, by the first two bytes of its block as one number: its head. Or CURRENT TIME SENSE with a selector,
+//! by the first three. And hexadecimal digits.
 ghost use Rattle.std.specs.Prelude.{◌≡◌, [], ◌∷◌};
 ghost use Rattle.capture9.specs.Fields.{byte_in, hex_digit_of};
-ghost use Rattle.sheet9.specs.Head.{head_named, is_reply};
+ghost use Rattle.sheet9.specs.Head.{head_named, head_or_selector, is_reply, selector_named};
+
+use block9::{TIME_SENSE, time_sense_with};
 
 /// The head that a key names: two hexadecimal digits for each of the two bytes, of either case, with one blank between.
 pub(crate) fn head_named(key: &[u8]) -> Option<u32>
@@ -9,6 +12,30 @@ pub(crate) fn head_named(key: &[u8]) -> Option<u32>
 {
     match key {
         [a, b, b' ', c, d] => Some(256 * u32::from(byte_of(*a, *b)?) + u32::from(byte_of(*c, *d)?)),
+        _ => None,
+    }
+}
+
+/// The head that a key names, or CURRENT TIME SENSE with a selector, where the key has three bytes.
+pub(crate) fn head_or_selector(key: &[u8]) -> Option<u32>
+    ensures { result ≡ head_or_selector key.now }
+{
+    match key.len() {
+        8 => selector_named(key),
+        _ => head_named(key),
+    }
+}
+
+/// What a key of three bytes names: CURRENT TIME SENSE, and behind a blank a selector, which may be any byte.
+fn selector_named(key: &[u8]) -> Option<u32>
+    ensures { result ≡ selector_named key.now }
+{
+    match key {
+        [a, b, first, c, d, second, e, f] => {
+            let head = head_named(&[*a, *b, *first, *c, *d])?;
+            let selector = byte_of(*e, *f)?;
+            (*second == b' ' && head == TIME_SENSE).then_some(time_sense_with(selector))
+        }
         _ => None,
     }
 }

@@ -14,6 +14,7 @@
 //! REC = ["SHUTTLE", "JOG"]
 //! [replies]                  # that it may also give to a command
 //! "61 0A" = ["74 08", "78 08"]
+//! "61 0C 10" = ["74 05"]       # to CURRENT TIME SENSE with this selector
 //! ```
 //!
 //! `specs/Sheet.antt` says what such a text means, over the toml library's own definition of a document. [`read_sheet`] gives

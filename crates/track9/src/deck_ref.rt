@@ -18,13 +18,12 @@ pub(crate) struct DeckRef<'a>(Option<&'a Deck>);
 
 impl<'a> Model for DeckRef<'a> {
     ghost use Rattle.std.specs.Prelude.{Option, option_map};
-    ghost use Rattle.std.specs.Coded.{coded_option};
     ghost use Rattle.deck9.specs.declared.deck.Deck.{Deck as ADeck};
-    ghost use Rattle.track9.specs.Working.Codes.{deck_code};
+    ghost use Rattle.track9.specs.Working.Codes.{stored};
 
     ghost Value = { Option ADeck };
 
-    ghost coded = { coded_option deck_code };
+    ghost coded = { Prim.hlevel stored };
 
     ghost view = { λ o. option_map (λ d. d.now) o.0 };
 }

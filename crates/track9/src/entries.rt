@@ -24,11 +24,11 @@ pub(crate) struct Entries<S: TimeSet> {
 
 impl<S: TimeSet> Model for Entries<S> {
     ghost use Rattle.track9.specs.Tracker.{Entries};
-    ghost use Rattle.track9.specs.Working.Codes.{entries_code};
+    ghost use Rattle.track9.specs.Working.Codes.{stored};
 
     ghost Value = { Entries };
 
-    ghost coded = { entries_code };
+    ghost coded = { Prim.hlevel stored };
 
     ghost use Rattle.sets25.specs.Times.{BelowDay};
 

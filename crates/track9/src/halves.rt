@@ -33,11 +33,11 @@ pub(crate) struct Halves<S: TimeSet> {
 
 impl<S: TimeSet> Model for Halves<S> {
     ghost use Rattle.track9.specs.Tracker.{Halves};
-    ghost use Rattle.track9.specs.Working.Codes.{halves_code};
+    ghost use Rattle.track9.specs.Working.Codes.{stored};
 
     ghost Value = { Halves };
 
-    ghost coded = { halves_code };
+    ghost coded = { Prim.hlevel stored };
 
     ghost view = { λ h. record { remote = h.remote; local = h.local } };
 }

@@ -37,11 +37,11 @@ pub(crate) struct Part<S: TimeSet> {
 
 impl<S: TimeSet> Model for Part<S> {
     ghost use Rattle.track9.specs.Tracker.{Part};
-    ghost use Rattle.track9.specs.Working.Codes.{part_code};
+    ghost use Rattle.track9.specs.Working.Codes.{stored};
 
     ghost Value = { Part };
 
-    ghost coded = { part_code };
+    ghost coded = { Prim.hlevel stored };
 
     ghost view = { λ p. record { pairs = p.pairs.0; ins = p.ins; outs = p.outs; ains = p.ains; aouts = p.aouts } };
 }

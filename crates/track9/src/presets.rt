@@ -18,11 +18,11 @@ pub(crate) struct Presets {
 
 impl Model for Presets {
     ghost use Rattle.track9.specs.Presets.{Presets as Counts};
-    ghost use Rattle.track9.specs.Working.Codes.{presets_code};
+    ghost use Rattle.track9.specs.Working.Codes.{stored};
 
     ghost Value = { Counts };
 
-    ghost coded = { presets_code };
+    ghost coded = { Prim.hlevel stored };
 
     ghost view = { λ n. record { ins = n.ins; outs = n.outs; ains = n.ains; aouts = n.aouts } };
 }

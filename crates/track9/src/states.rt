@@ -40,11 +40,11 @@ pub(crate) struct States<S: TimeSet> {
 impl<S: TimeSet> Model for States<S> {
     ghost use Rattle.track9.specs.Tracker.{States};
     ghost use Rattle.std.specs.Prelude.{option_map};
-    ghost use Rattle.track9.specs.Working.Codes.{states_code};
+    ghost use Rattle.track9.specs.Working.Codes.{stored};
 
     ghost Value = { States };
 
-    ghost coded = { states_code };
+    ghost coded = { Prim.hlevel stored };
 
     ghost view = { λ v. record { off = v.off; on = option_map (λ b. b.value) v.on } };
 }

@@ -45,11 +45,11 @@ pub struct Tracker<'a, S: TimeSet> {
 
 impl<'a, S: TimeSet> Model for Tracker<'a, S> {
     ghost use Rattle.track9.specs.Tracker.{Tracked};
-    ghost use Rattle.track9.specs.Working.Codes.{tracked_code};
+    ghost use Rattle.track9.specs.Working.Codes.{stored};
 
     ghost Value = { Tracked };
 
-    ghost coded = { tracked_code };
+    ghost coded = { Prim.hlevel stored };
 
     ghost use Rattle.track9.specs.Working.States.{AreTracked, profile_of};
 
@@ -124,6 +124,7 @@ impl<'a, S: TimeSet> Tracker<'a, S> {
     ///
     /// An error comes where memory is refused, and the tracker is then as it was. Where hands are not allowed none
     /// comes for a NAK, nor for a command that asks for no register's time and changes and forgets no register.
+    #[inline(always)] // each exchange of a capture comes here
     pub fn observe(&mut self, command: &Command, reply: &Block) -> Result<bool, AllocError>
         ensures reached { IfOk result (λ b. AreReached (Possible self.old.states) (Exchanges self.old.profile command.now reply.now) (Possible self.new.states)) }
         ensures remains { IfOk result (λ b. IsTrue b ↔ ((s : AState) × Possible self.new.states s)) }

@@ -1,6 +1,6 @@
 //! Equal breaks in a row, which are told in one line.
 
-use crate::decimal::put_seconds;
+use crate::decimal::put_seconds_between;
 use crate::seen::SeenBreak;
 use report9::{put_count, put_no_line, put_text, put_word};
 use std::alloc::AllocError;
@@ -8,12 +8,14 @@ use std::alloc::AllocError;
 /// Breaks in a row of one rule, with the same command open, where an exchange or a late reply comes between no two of them.
 #[derive(Clone, Copy)]
 pub struct BreakRun {
-    first: SeenBreak,
+    /// The first of them.
+    pub first: SeenBreak,
     /// The number of the last one's record.
-    last_at: u32,
+    pub last_at: u32,
     /// Its time, in microseconds.
-    last_us: u64,
-    breaks: u32,
+    pub last_us: u64,
+    /// How many there are: one at least. The number stays at its greatest once that is reached.
+    pub breaks: u32,
 }
 
 impl BreakRun {
@@ -38,39 +40,17 @@ impl BreakRun {
         is_equal
     }
 
-    /// The first of them.
-    pub fn first(&self) -> &SeenBreak {
-        &self.first
-    }
-
-    /// The number of the last one's record.
-    pub fn last_at(&self) -> u32 {
-        self.last_at
-    }
-
-    /// The last one's time, in microseconds.
-    pub fn last_us(&self) -> u64 {
-        self.last_us
-    }
-
-    /// How many there are: one at least. The number stays at its greatest once that is reached.
-    pub fn breaks(&self) -> u32 {
-        self.breaks
-    }
-
     /// Puts their line.
-    pub fn put(&self, line: &mut Vec<u8>) -> Result<(), AllocError> {
+    pub(crate) fn put(&self, line: &mut Vec<u8>) -> Result<(), AllocError> {
         let first = &self.first;
         if self.breaks == 1 {
             return put_no_line(line, first.at, first.reason);
         }
         put_count(line, "no at records ", u64::from(first.at))?;
         put_count(line, " to ", u64::from(self.last_at))?;
-        put_text(line, ", ")?;
-        put_seconds(line, first.time_us)?;
-        put_text(line, " s to ")?;
-        put_seconds(line, self.last_us)?;
-        put_word(line, " s: ", first.reason.name())?;
+        put_seconds_between(line, ", ", first.time_us, " s to ")?;
+        put_seconds_between(line, "", self.last_us, " s: ")?;
+        put_text(line, first.reason.name())?;
         put_word(line, " ", first.reason.text())?;
         put_count(line, ", ", u64::from(self.breaks))?;
         put_text(line, " times\n")

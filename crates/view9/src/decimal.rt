@@ -8,6 +8,18 @@ pub fn put_seconds<B: TextBuffer>(line: &mut B, us: u64) -> Result<(), B::Refusa
     put_fixed(line, us, 6)
 }
 
+/// Puts microseconds as seconds between two texts.
+pub(crate) fn put_seconds_between<B: TextBuffer>(
+    line: &mut B,
+    before: &str,
+    us: u64,
+    after: &str,
+) -> Result<(), B::Refusal> {
+    put_text(line, before)?;
+    put_seconds(line, us)?;
+    put_text(line, after)
+}
+
 /// Puts a number with a point before so many of its last digits.
 pub fn put_fixed<B: TextBuffer>(line: &mut B, number: u64, places: u32) -> Result<(), B::Refusal>
     requires { places ≤ 19 }
@@ -20,13 +32,29 @@ pub fn put_fixed<B: TextBuffer>(line: &mut B, number: u64, places: u32) -> Resul
     Ok(())
 }
 
-/// Puts a number at the right of a column that is so many characters wide. One with more digits is wider.
-pub fn put_right<B: TextBuffer>(line: &mut B, number: u64, width: u32) -> Result<(), B::Refusal> {
+/// Puts a number at the right of a column that is so many characters wide, and a text after it. One with more digits is wider.
+pub(crate) fn put_right<B: TextBuffer>(
+    line: &mut B,
+    number: u64,
+    width: u32,
+    after: &str,
+) -> Result<(), B::Refusal> {
+    put_blanks(line, number, width)?;
+    put_count(line, "", number)?;
+    put_text(line, after)
+}
+
+/// Puts the blanks before a number that stands at the right of such a column.
+pub(crate) fn put_blanks<B: TextBuffer>(
+    line: &mut B,
+    number: u64,
+    width: u32,
+) -> Result<(), B::Refusal> {
     let digits = number.checked_ilog10().unwrap_or(0) + 1;
     for _ in digits..width {
         put_text(line, " ")?;
     }
-    put_count(line, "", number)
+    Ok(())
 }
 
 /// The last decimal digit of a number.

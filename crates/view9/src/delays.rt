@@ -4,11 +4,11 @@ use crate::called::Called;
 use crate::decimal::put_right;
 use crate::delay_counts::DelayCounts;
 use crate::follow::show;
-use crate::seen::{Ending, SeenBreak, SeenExchange, SeenLate, View};
+use crate::seen::{Ending, SeenBreak, SeenExchange, View, ViewOf};
 use block9::{Exchange, REPLY_LIMIT_US};
 use deck9::Profile;
 use indexmap::IndexMap;
-use report9::{JudgeError, Scope, Stretch, put_count, put_text, write_all};
+use report9::{JudgeError, put_count, put_text, write_all};
 use std::alloc::{AllocError, Global};
 use std::io::{Read, Write};
 
@@ -30,19 +30,17 @@ pub fn write_delays<R: Read + Drop, W: Write>(
     alloc: Global,
     reader: R,
     writer: &mut W,
-    scope: Scope,
-    stretch: Stretch,
-    profile: &Profile,
+    of: ViewOf<'_>,
 ) -> Result<Ending, JudgeError> {
-    let mut view = Delays::new(alloc, writer, profile);
-    show(alloc, reader, &mut view, scope, stretch, profile)
-}
-
-/// A late reply.
-#[derive(Clone, Copy)]
-struct LateReply {
-    at: u32,
-    delay_us: u64,
+    let mut delays = Delays {
+        alloc,
+        profile: of.profile,
+        writer,
+        of_command: IndexMap::new(alloc),
+        late: Vec::new(alloc),
+        late_replies: 0,
+    };
+    show(alloc, reader, &mut delays, of)
 }
 
 /// The delays so far.
@@ -53,42 +51,18 @@ struct Delays<'a, W: Write> {
     writer: &'a mut W,
     /// The delays of each command's replies, in the order in which the commands first came.
     of_command: IndexMap<Called<'a>, DelayCounts>,
-    /// The first late replies.
-    late: Vec<LateReply>,
+    /// The first late replies, each by its record's number and its delay.
+    late: Vec<(u32, u64)>,
     late_replies: u64,
 }
 
-impl<'a, W: Write> Delays<'a, W> {
-    /// Of no reply.
-    fn new(alloc: Global, writer: &'a mut W, profile: &'a Profile) -> Delays<'a, W> {
-        Delays {
-            alloc,
-            profile,
-            writer,
-            of_command: IndexMap::new(alloc),
-            late: Vec::new(alloc),
-            late_replies: 0,
-        }
-    }
-
+impl<W: Write> Delays<'_, W> {
     /// Counts the reply of an exchange.
     fn count(&mut self, exchange: &Exchange) -> Result<(), AllocError> {
         let alloc = self.alloc;
-        let called = Called::of(self.profile, exchange);
-        let counts = self
-            .of_command
-            .entry(called)?
-            .or_insert_with(|| DelayCounts::new(alloc));
+        let entry = self.of_command.entry(Called::of(self.profile, exchange))?;
+        let counts = entry.or_insert_with(|| DelayCounts::new(alloc));
         counts.add(exchange.delay_us, 1)
-    }
-
-    /// Takes a late reply.
-    fn take_late(&mut self, at: u32, delay_us: u64) -> Result<(), AllocError> {
-        self.late_replies = self.late_replies.saturating_add(1);
-        if self.late.len() < MOST_LATE {
-            self.late.push(LateReply { at, delay_us })?;
-        }
-        Ok(())
     }
 
     /// The delays of all replies.
@@ -116,10 +90,10 @@ impl<'a, W: Write> Delays<'a, W> {
 
     /// Puts the late replies.
     fn put_late(&self, text: &mut Vec<u8>) -> Result<(), AllocError> {
-        for late in self.late.iter() {
-            put_right(text, late.delay_us, 12)?;
-            put_count(text, " |late reply at record ", u64::from(late.at))?;
-            put_count(text, ", ", late.delay_us.saturating_sub(REPLY_LIMIT_US))?;
+        for (at, delay_us) in self.late.iter() {
+            put_right(text, *delay_us, 12, " |late reply at record ")?;
+            put_count(text, "", u64::from(*at))?;
+            put_count(text, ", ", delay_us.saturating_sub(REPLY_LIMIT_US))?;
             put_text(text, " above the limit\n")?;
         }
         let others = self.late_replies.saturating_sub(MOST_LATE as u64);
@@ -156,16 +130,21 @@ impl<W: Write> View for Delays<'_, W> {
         Ok(())
     }
 
-    fn late(&mut self, late: &SeenLate) -> Result<(), JudgeError> {
-        if late.is_shown {
-            self.take_late(late.at, late.delay_us)?;
-        }
-        Ok(())
+    fn late(&mut self, late: &SeenBreak) -> Result<(), JudgeError> {
+        self.broken(late)
     }
 
     fn broken(&mut self, broken: &SeenBreak) -> Result<(), JudgeError> {
         match broken.delay_us {
-            Some(delay_us) if broken.is_shown => Ok(self.take_late(broken.at, delay_us)?),
+            Some(delay_us) if broken.is_shown => {
+                self.late_replies = self.late_replies.saturating_add(1);
+                if self.late.len() < MOST_LATE {
+                    self.late
+                        .push((broken.at, delay_us))
+                        .map_err(AllocError::from)?;
+                }
+                Ok(())
+            }
             _ => Ok(()),
         }
     }
@@ -179,15 +158,12 @@ impl<W: Write> View for Delays<'_, W> {
 
 /// Puts how many replies there are, and the least delay of them, the middle one, the 99th of a hundred and the greatest.
 fn put_counts(text: &mut Vec<u8>, counts: &DelayCounts) -> Result<(), AllocError> {
-    put_right(text, counts.replies(), 7)?;
+    put_right(text, counts.replies(), 7, " ")?;
     let [least, middle, nearly_all, greatest] = counts.told();
     for delay_us in [least, middle, nearly_all] {
-        put_text(text, " ")?;
-        put_right(text, delay_us, 6)?;
+        put_right(text, delay_us, 6, " ")?;
     }
-    put_text(text, " ")?;
-    put_right(text, greatest, 8)?;
-    put_text(text, "  ")
+    put_right(text, greatest, 8, "  ")
 }
 
 /// Puts a bar for each stretch of delays up to the limit, with how many replies began then.
@@ -197,10 +173,9 @@ fn put_histogram(text: &mut Vec<u8>, all: &DelayCounts) -> Result<(), AllocError
     let mut from = 0u64;
     for replies in bars {
         let next = from.saturating_add(BAR_US);
-        put_right(text, from, 4)?;
-        put_text(text, " to ")?;
-        put_right(text, next.saturating_sub(1).min(REPLY_LIMIT_US), 4)?;
-        put_text(text, " |")?;
+        let to = next.saturating_sub(1).min(REPLY_LIMIT_US);
+        put_right(text, from, 4, " to ")?;
+        put_right(text, to, 4, " |")?;
         let marks = replies.saturating_mul(MOST_MARKS).div_ceil(greatest.max(1));
         put_marks(text, "#", marks)?;
         put_count(text, " ", replies)?;

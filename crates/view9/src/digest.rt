@@ -3,16 +3,12 @@
 use crate::break_run::BreakRun;
 use crate::changes::{Changes, put_changes};
 use crate::follow::show;
-use crate::seen::{Ending, SeenBreak, SeenExchange, SeenLate, View};
+use crate::seen::{Ending, SeenBreak, SeenExchange, View, ViewOf};
 use crate::strength::Strength;
 use crate::tally::Tally;
 use crate::track::Place;
-use block9::Reason;
 use deck9::Profile;
-use report9::{
-    JudgeError, Scope, Stretch, Totals, put_command, put_count, put_no_line, put_reply, put_text,
-    put_totals_line, put_verdict_line, write_all,
-};
+use report9::{JudgeError, put_command, put_count, put_no_line, put_reply, put_text, write_all};
 use std::alloc::{AllocError, Global};
 use std::io::{Read, Write};
 
@@ -22,12 +18,19 @@ pub fn write_digest<R: Read + Drop, W: Write>(
     alloc: Global,
     reader: R,
     writer: &mut W,
-    scope: Scope,
-    stretch: Stretch,
-    profile: &Profile,
+    of: ViewOf<'_>,
 ) -> Result<Ending, JudgeError> {
-    let mut view = Digest::new(alloc, writer, profile);
-    show(alloc, reader, &mut view, scope, stretch, profile)
+    let mut digest = Digest {
+        profile: of.profile,
+        writer,
+        line: Vec::new(alloc),
+        folded: Tally::new(alloc, of.profile),
+        breaks: None,
+        changes: Changes::new(alloc, of.profile.hands),
+        strength: Strength::new(alloc, of.profile),
+        late_replies: 0,
+    };
+    show(alloc, reader, &mut digest, of)
 }
 
 /// A digest, as far as it is written.
@@ -46,21 +49,7 @@ struct Digest<'a, W: Write> {
     late_replies: u32,
 }
 
-impl<'a, W: Write> Digest<'a, W> {
-    /// A digest of nothing yet.
-    fn new(alloc: Global, writer: &'a mut W, profile: &'a Profile) -> Digest<'a, W> {
-        Digest {
-            profile,
-            writer,
-            line: Vec::new(alloc),
-            folded: Tally::new(alloc, profile),
-            breaks: None,
-            changes: Changes::new(alloc, profile.hands),
-            strength: Strength::new(alloc, profile),
-            late_replies: 0,
-        }
-    }
-
+impl<W: Write> Digest<'_, W> {
     /// Begins to put lines, with that of the queries or of the breaks since the last one.
     fn put_since(&mut self) -> Result<(), AllocError> {
         self.line.clear();
@@ -79,17 +68,6 @@ impl<'a, W: Write> Digest<'a, W> {
         put_reply(line, " -> ", &seen.exchange.reply)?;
         put_changes(line, self.changes.as_slice(), self.profile.rate)?;
         put_text(line, "\n")
-    }
-
-    /// Puts the lines of the totals.
-    fn put_totals(&mut self, totals: &Totals) -> Result<(), AllocError> {
-        put_totals_line(&mut self.line, totals)?;
-        if self.late_replies > 0 {
-            let late_replies = u64::from(self.late_replies);
-            put_count(&mut self.line, "late replies: ", late_replies)?;
-            put_text(&mut self.line, "\n")?;
-        }
-        Ok(())
     }
 
     /// Writes the lines that were put.
@@ -118,13 +96,13 @@ impl<W: Write> View for Digest<'_, W> {
         self.write()
     }
 
-    fn late(&mut self, late: &SeenLate) -> Result<(), JudgeError> {
+    fn late(&mut self, late: &SeenBreak) -> Result<(), JudgeError> {
         if !late.is_shown {
             return Ok(());
         }
         self.late_replies = self.late_replies.saturating_add(1);
         self.put_since()?;
-        put_no_line(&mut self.line, late.at, Reason::LateReply)?;
+        put_no_line(&mut self.line, late.at, late.reason)?;
         self.write()
     }
 
@@ -144,16 +122,18 @@ impl<W: Write> View for Digest<'_, W> {
     }
 
     fn end(&mut self, ending: &Ending) -> Result<(), JudgeError> {
-        match ending {
-            Ending::Verdict(verdict) => {
-                self.breaks = None; // a no is the line of its break
-                self.put_since()?;
-                put_verdict_line(&mut self.line, *verdict)?;
-            }
-            Ending::Totals(totals) => {
-                self.put_since()?;
-                self.put_totals(totals)?;
-            }
+        if let Ending::Verdict(_) = ending {
+            self.breaks = None; // a no is the line of its break
+        }
+        self.put_since()?;
+        ending.put(&mut self.line)?;
+        if self.late_replies > 0 {
+            put_count(
+                &mut self.line,
+                "late replies: ",
+                u64::from(self.late_replies),
+            )?;
+            put_text(&mut self.line, "\n")?;
         }
         self.strength.put(&mut self.line)?;
         self.write()

@@ -4,12 +4,12 @@ ghost use Rattle.judge9.specs.History.{nothing_told};
 ghost use Rattle.judge9.specs.Standing.{CanGoOn, ShowsExchange, Stands};
 ghost use Rattle.judge9.specs.declared.event.Event.TheVariants as AnEvent;
 
-use crate::seen::{Ending, ExplainedView, SeenBreak, SeenExchange, SeenLate, View};
+use crate::seen::{Ending, ExplainedView, SeenBreak, SeenExchange, View, ViewOf};
 use block9::Reason;
 use capture9::LineByte;
-use deck9::{Knowledge, Profile};
-use judge9::{Break, Event, Judging, Kept};
-use report9::{Extent, JudgeError, Scope, Stretch};
+use deck9::Knowledge;
+use judge9::{Event, Judging, Kept};
+use report9::{Extent, JudgeError, Stretch};
 use std::alloc::Global;
 use std::io::Read;
 
@@ -19,13 +19,11 @@ pub fn show<R: Read + Drop, V: View>(
     alloc: Global,
     reader: R,
     view: &mut V,
-    scope: Scope,
-    stretch: Stretch,
-    profile: &Profile,
+    of: ViewOf<'_>,
 ) -> Result<Ending, JudgeError> {
-    let mut judging = Judging::new(alloc, reader, scope, profile)?;
-    let shown = show_events(&mut judging, view, stretch);
-    let ending = ending_of(&judging, scope.extent);
+    let mut judging = Judging::new(alloc, reader, of.scope, of.profile)?;
+    let shown = show_events(&mut judging, view, of.stretch);
+    let ending = ending_of(&judging, of.scope.extent);
     drop(judging);
     shown?;
     view.end(&ending)?;
@@ -43,17 +41,8 @@ fn show_events<R: Read + Drop, V: View>(
     let mut known = None;
     'events: loop {
         match judging.next()? {
-            Event::Exchange => {
-                let seen = see_exchange(judging, known, stretch);
-                view.exchange(&seen)?;
-                known = Some(seen.after);
-            }
-            Event::LateReply(first) => view.late(&see_late(judging, first, stretch))?,
-            Event::Break(broken) => {
-                known = None;
-                view.broken(&see_break(judging, broken, stretch))?;
-            }
             Event::End => return Ok(()),
+            event => known = show_event(judging, view, stretch, event, known)?,
         }
     }
 }
@@ -64,13 +53,11 @@ pub fn show_explained<R: Read + Drop, V: ExplainedView>(
     alloc: Global,
     reader: R,
     view: &mut V,
-    scope: Scope,
-    stretch: Stretch,
-    profile: &Profile,
+    of: ViewOf<'_>,
 ) -> Result<Ending, JudgeError> {
-    let mut judging = Judging::new(alloc, reader, scope, profile)?;
-    let shown = explain_events(alloc, &mut judging, view, stretch);
-    let ending = ending_of(&judging, scope.extent);
+    let mut judging = Judging::new(alloc, reader, of.scope, of.profile)?;
+    let shown = explain_events(alloc, &mut judging, view, of.stretch);
+    let ending = ending_of(&judging, of.scope.extent);
     drop(judging);
     shown?;
     view.end(&ending)?;
@@ -95,13 +82,22 @@ fn explain_events<R: Read + Drop, V: ExplainedView>(
             event => {
                 let why = kept.follow(alloc, judging, event)?;
                 if let Some(why) = why {
-                    view.why(why)?;
+                    view.why(why, is_shown(event, stretch))?;
                 }
                 known = show_event(judging, view, stretch, event, known)?;
             }
         }
     }
     Ok(())
+}
+
+/// Whether a late reply or a break lies in the stretch.
+fn is_shown(event: Event, stretch: Stretch) -> bool {
+    match event {
+        Event::LateReply(first) => stretch.has(first.time_us),
+        Event::Break(broken) => stretch.has(broken.record.time_us),
+        Event::Exchange | Event::End => false,
+    }
 }
 
 /// Shows an event that is not the end: what is known of the deck from here on.
@@ -121,11 +117,11 @@ fn show_event<R: Read + Drop, V: View>(
             Ok(Some(seen.after))
         }
         Event::LateReply(first) => {
-            view.late(&see_late(judging, first, stretch))?;
+            view.late(&see_break(judging, first, Reason::LateReply, stretch))?;
             Ok(known)
         }
         Event::Break(broken) => {
-            view.broken(&see_break(judging, broken, stretch))?;
+            view.broken(&see_break(judging, broken.record, broken.reason, stretch))?;
             Ok(None)
         }
         Event::End => Ok(known),
@@ -156,43 +152,30 @@ fn see_exchange<'e, R: Read + Drop>(
     }
 }
 
-/// The late reply that the judging came to, which begins with this record.
-fn see_late<R: Read + Drop>(judging: &Judging<R>, first: LineByte, stretch: Stretch) -> SeenLate {
-    SeenLate {
-        at: judging.at(),
-        time_us: first.time_us,
-        delay_us: since_command(judging, first),
-        is_shown: stretch.has(first.time_us),
-    }
-}
-
-/// The break that the judging came to.
-fn see_break<R: Read + Drop>(judging: &Judging<R>, broken: Break, stretch: Stretch) -> SeenBreak {
-    let delay_us = match broken.reason {
-        Reason::LateReply => Some(since_command(judging, broken.record)),
-        _ => None,
+/// The break or the late reply that the judging came to with this record, by this rule.
+fn see_break<R: Read + Drop>(
+    judging: &Judging<R>,
+    record: LineByte,
+    reason: Reason,
+    stretch: Stretch,
+) -> SeenBreak {
+    let open = judging.open();
+    let delay_us = match judging.tail().get(open.asked.saturating_sub(1)) {
+        Some(last) => record.time_us.saturating_sub(last.time_us),
+        None => 0,
     };
     SeenBreak {
         at: judging.at(),
-        time_us: broken.record.time_us,
-        reason: broken.reason,
-        open: judging.open().command,
-        delay_us,
-        is_shown: stretch.has(broken.record.time_us),
-    }
-}
-
-/// The time from the last record of the command that is open to this record, in microseconds; 0 where none is open.
-fn since_command<R: Read + Drop>(judging: &Judging<R>, record: LineByte) -> u64 {
-    let asked = judging.open().asked;
-    match judging.tail().get(asked.saturating_sub(1)) {
-        Some(last) => record.time_us.saturating_sub(last.time_us),
-        None => 0,
+        time_us: record.time_us,
+        reason,
+        open: open.command,
+        delay_us: (reason == Reason::LateReply).then_some(delay_us),
+        is_shown: stretch.has(record.time_us),
     }
 }
 
 /// What a judging that has ended comes to.
-pub(crate) fn ending_of<R: Read + Drop>(judging: &Judging<R>, extent: Extent) -> Ending {
+fn ending_of<R: Read + Drop>(judging: &Judging<R>, extent: Extent) -> Ending {
     match extent {
         Extent::FirstBreak => Ending::Verdict(judging.verdict()),
         Extent::WholeCapture => Ending::Totals(judging.totals()),

@@ -3,15 +3,42 @@
 //! What comes after a command is what comes before the next transport command that is acknowledged, or before the end of the part.
 //! A late reply ends no part, and so no command's line.
 
-use crate::motion_lines::{MotionLine, MotionLines};
-use crate::outcomes::Outcomes;
+use crate::called::Called;
 use crate::seen::SeenExchange;
 use crate::track::{Answer, Place, take_answer};
-use crate::transport::{Followed, Shown, Transport, Way, count_shown};
-use crate::worth::{Showing, weigh};
+use crate::transport::{Followed, Transport, Way};
+use crate::worth::Showing;
 use block9::Command;
 use deck9::{Known, ModeSet, Profile, Status};
+use indexmap::IndexMap;
 use std::alloc::{AllocError, Global};
+
+/// A line that tells a deck's motion.
+#[derive(Drop)]
+pub struct MotionLine {
+    /// What it names, by the exchange's last record: the acknowledgement of a command, or else what is worth looking at.
+    pub place: Place,
+    /// Whether it is worth looking at. Else it tells what came of a command.
+    pub is_worth: bool,
+    /// What it says, after the record and its time.
+    pub text: Vec<u8>,
+}
+
+/// What came of one command. A count stays at its greatest once that is reached.
+#[derive(Clone, Copy, Debug, Default, PartialEq, Eq)]
+pub struct Outcome {
+    /// How often it was acknowledged.
+    pub commands: u32,
+    /// How often its mode was shown.
+    pub shown: u32,
+    /// How often there were statuses, and none showed its mode.
+    pub never: u32,
+    /// Its slowest response: from the acknowledgement to the first status that showed its mode, in microseconds. None where its mode was
+    /// never shown.
+    pub slowest_us: Option<u64>,
+    /// The number of that acknowledgement's last record; 0 where there is none.
+    pub slowest_at: u32,
+}
 
 /// Follows what a deck does. It is handed each exchange, and the end of each part. Each time it has the lines of what ended with it: of
 /// a command, and of what is worth looking at. They stay until the next time.
@@ -19,14 +46,14 @@ use std::alloc::{AllocError, Global};
 pub struct Motion<'a> {
     profile: &'a Profile,
     /// What ended with the last exchange, or the last part.
-    told: MotionLines,
+    told: Vec<MotionLine>,
     /// The last transport command of the part, and what came since.
     followed: Option<Followed<'a>>,
-    /// How often which modes were shown since then.
-    shown: Vec<Shown>,
+    /// How many statuses showed which modes since then, in the order in which these first came.
+    shown: Vec<(ModeSet, u32)>,
     /// The last statuses, as far as they show the same.
     showing: Option<Showing>,
-    outcomes: Outcomes<'a>,
+    outcomes: IndexMap<Called<'a>, Outcome>,
 }
 
 impl<'a> Motion<'a> {
@@ -34,11 +61,11 @@ impl<'a> Motion<'a> {
     pub fn new(alloc: Global, profile: &'a Profile) -> Motion<'a> {
         Motion {
             profile,
-            told: MotionLines::new(alloc),
+            told: Vec::new(alloc),
             followed: None,
             shown: Vec::new(alloc),
             showing: None,
-            outcomes: Outcomes::new(alloc),
+            outcomes: IndexMap::new(alloc),
         }
     }
 
@@ -73,18 +100,13 @@ impl<'a> Motion<'a> {
         Ok(())
     }
 
-    /// How many lines there are of what ended with the last exchange, or the last part.
-    pub fn lines(&self) -> usize {
-        self.told.len()
+    /// The lines of what ended with the last exchange, or the last part.
+    pub fn lines(&self) -> &[MotionLine] {
+        self.told.as_slice()
     }
 
-    /// The line at a place in their order, counted from 0; none where there is no such place.
-    pub fn line(&self, place: usize) -> Option<MotionLine<'_>> {
-        self.told.get(place)
-    }
-
-    /// What came of the commands that have a mode of their own and a line.
-    pub fn outcomes(&self) -> &Outcomes<'a> {
+    /// What came of the commands that have a mode of their own and a line, in the order in which they first came.
+    pub fn outcomes(&self) -> &IndexMap<Called<'a>, Outcome> {
         &self.outcomes
     }
 
@@ -155,12 +177,12 @@ impl<'a> Motion<'a> {
     /// Weighs what was shown up to now.
     fn end_showing(&mut self) -> Result<(), AllocError> {
         if let Some(showing) = self.showing.take() {
-            weigh(&mut self.told, &showing, self.followed.as_ref())?;
+            showing.weigh(&mut self.told, self.followed.as_ref())?;
         }
         Ok(())
     }
 
-    /// Tells what came of the command, and counts it.
+    /// Tells what came of the command, and counts it where it has a mode of its own.
     fn end_command(&mut self) -> Result<(), AllocError> {
         let Some(followed) = &self.followed else {
             return Ok(());
@@ -168,21 +190,61 @@ impl<'a> Motion<'a> {
         if !followed.place.is_shown {
             return Ok(());
         }
-        tell_command(&mut self.told, followed, self.shown.as_slice(), false)?;
-        if followed.is_never_shown() {
-            tell_command(&mut self.told, followed, self.shown.as_slice(), true)?;
+        for is_worth in [false, true] {
+            if !is_worth || followed.is_never_shown() {
+                let mut text = Vec::new(*self.told.allocator());
+                followed.put(&mut text, self.shown.as_slice())?;
+                tell(&mut self.told, followed.place, is_worth, text)?;
+            }
         }
-        self.outcomes.count(followed)
+        if followed.transport.mode.is_some() {
+            let outcome = self.outcomes.entry(followed.transport.called)?.or_default();
+            outcome.add(followed);
+        }
+        Ok(())
     }
 }
 
-/// Tells what came of a command.
-fn tell_command(
-    told: &mut MotionLines,
-    followed: &Followed<'_>,
-    shown: &[Shown],
+impl Outcome {
+    /// Counts one command.
+    fn add(&mut self, followed: &Followed<'_>) {
+        self.commands = self.commands.saturating_add(1);
+        let is_shown = followed.response_us.is_some();
+        self.shown = self.shown.saturating_add(u32::from(is_shown));
+        let is_never_shown = followed.is_never_shown();
+        self.never = self.never.saturating_add(u32::from(is_never_shown));
+        if followed.response_us > self.slowest_us {
+            self.slowest_us = followed.response_us;
+            self.slowest_at = followed.place.record;
+        }
+    }
+}
+
+/// Counts a status that shows these modes.
+fn count_shown(shown: &mut Vec<(ModeSet, u32)>, modes: ModeSet) -> Result<(), AllocError> {
+    for (counted, statuses) in shown.iter_mut() {
+        if *counted == modes {
+            *statuses = statuses.saturating_add(1);
+            return Ok(());
+        }
+    }
+    shown.push((modes, 1))?;
+    Ok(())
+}
+
+/// Tells a line, where what it names is shown.
+pub(crate) fn tell(
+    told: &mut Vec<MotionLine>,
+    place: Place,
     is_worth: bool,
+    text: Vec<u8>,
 ) -> Result<(), AllocError> {
-    followed.put(&mut told.text, shown)?;
-    told.end_line(followed.place, is_worth)
+    if place.is_shown {
+        told.push(MotionLine {
+            place,
+            is_worth,
+            text,
+        })?;
+    }
+    Ok(())
 }

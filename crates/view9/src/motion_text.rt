@@ -1,11 +1,11 @@
 //! The text that tells the motion: a line for each command, a table of the responses, and what is worth looking at.
 
+use crate::called::Called;
+use crate::decimal::{put_blanks, put_right, put_seconds_between};
 use crate::follow::show;
-use crate::motion::Motion;
-use crate::motion_lines::MotionLine;
-use crate::seen::{Ending, SeenBreak, SeenExchange, SeenLate, View};
-use deck9::Profile;
-use report9::{JudgeError, Scope, Stretch, TextBuffer, put_count, put_text, write_all};
+use crate::motion::{Motion, MotionLine, Outcome};
+use crate::seen::{Ending, SeenBreak, SeenExchange, View, ViewOf};
+use report9::{JudgeError, TextBuffer, put_count, put_text, write_all};
 use std::alloc::{AllocError, Global};
 use std::io::{Read, Write};
 
@@ -23,12 +23,18 @@ pub fn write_motion<R: Read + Drop, W: Write>(
     alloc: Global,
     reader: R,
     writer: &mut W,
-    scope: Scope,
-    stretch: Stretch,
-    profile: &Profile,
+    of: ViewOf<'_>,
 ) -> Result<Ending, JudgeError> {
-    let mut view = MotionText::new(alloc, writer, profile)?;
-    show(alloc, reader, &mut view, scope, stretch, profile)
+    let mut lines = Vec::new(alloc);
+    put_text(&mut lines, TITLE)?;
+    let mut text = MotionText {
+        writer,
+        motion: Motion::new(alloc, of.profile),
+        lines,
+        worth: 0,
+        worth_lines: Vec::new(alloc),
+    };
+    show(alloc, reader, &mut text, of)
 }
 
 /// The text, as far as it is written.
@@ -44,40 +50,39 @@ struct MotionText<'a, W: Write> {
     worth_lines: Vec<u8>,
 }
 
-impl<'a, W: Write> MotionText<'a, W> {
-    /// Of nothing yet.
-    fn new(
-        alloc: Global,
-        writer: &'a mut W,
-        profile: &'a Profile,
-    ) -> Result<MotionText<'a, W>, AllocError> {
-        let mut lines = Vec::new(alloc);
-        put_text(&mut lines, TITLE)?;
-        Ok(MotionText {
-            writer,
-            motion: Motion::new(alloc, profile),
-            lines,
-            worth: 0,
-            worth_lines: Vec::new(alloc),
-        })
-    }
-
+impl<W: Write> MotionText<'_, W> {
     /// Takes the lines that are told, and writes those of commands.
     fn take_lines(&mut self) -> Result<(), JudgeError> {
-        let mut is_told = false;
-        for place in 0..self.motion.lines() {
-            if let Some(line) = self.motion.line(place) {
-                is_told |= !line.is_worth;
-                take_line(
-                    &mut self.lines,
-                    &mut self.worth_lines,
-                    &mut self.worth,
-                    &line,
-                )?;
+        for line in self.motion.lines() {
+            if !line.is_worth {
+                put_line(&mut self.lines, line)?;
+                continue;
+            }
+            self.worth = self.worth.saturating_add(1);
+            if self.worth <= MOST_LISTED {
+                put_text(&mut self.worth_lines, "    ")?;
+                put_line(&mut self.worth_lines, line)?;
             }
         }
-        if is_told {
+        if self.motion.lines().iter().any(|line| !line.is_worth) {
             self.write()?;
+        }
+        Ok(())
+    }
+
+    /// Puts the table of what came of the commands.
+    fn put_outcomes(&mut self) -> Result<(), AllocError> {
+        let outcomes = self.motion.outcomes();
+        put_text(
+            &mut self.lines,
+            if outcomes.is_empty() {
+                "no transport command with a mode of its own was acknowledged\n"
+            } else {
+                "commands  shown  never    slowest s  at record  command\n"
+            },
+        )?;
+        for (called, outcome) in outcomes.iter() {
+            put_outcome(&mut self.lines, *called, outcome)?;
         }
         Ok(())
     }
@@ -105,32 +110,38 @@ impl<'a, W: Write> MotionText<'a, W> {
     }
 }
 
-/// Takes a line to those of commands, or to those that are worth looking at, as far as these are listed.
-fn take_line(
-    lines: &mut Vec<u8>,
-    worth_lines: &mut Vec<u8>,
-    worth: &mut u64,
-    line: &MotionLine<'_>,
+/// Puts a line, with its record and its time.
+fn put_line(lines: &mut Vec<u8>, line: &MotionLine) -> Result<(), AllocError> {
+    line.place.put(lines)?;
+    lines.put(line.text.as_slice())?;
+    put_text(lines, "\n")
+}
+
+/// Puts the columns of a command.
+fn put_outcome(
+    line: &mut Vec<u8>,
+    called: Called<'_>,
+    outcome: &Outcome,
 ) -> Result<(), AllocError> {
-    if !line.is_worth {
-        return line.put(lines);
+    put_right(line, u64::from(outcome.commands), 8, " ")?;
+    put_right(line, u64::from(outcome.shown), 6, " ")?;
+    put_right(line, u64::from(outcome.never), 6, " ")?;
+    match outcome.slowest_us {
+        Some(us) => {
+            put_blanks(line, us / 1_000_000, 5)?;
+            put_seconds_between(line, "", us, " ")?;
+            put_right(line, u64::from(outcome.slowest_at), 10, "  ")?;
+        }
+        None => put_text(line, "           -          -  ")?,
     }
-    *worth = worth.saturating_add(1);
-    if *worth > MOST_LISTED {
-        return Ok(());
-    }
-    put_text(worth_lines, "    ")?;
-    line.put(worth_lines)
+    called.put(line)?;
+    put_text(line, "\n")
 }
 
 impl<W: Write> View for MotionText<'_, W> {
     fn exchange(&mut self, seen: &SeenExchange<'_>) -> Result<(), JudgeError> {
         self.motion.exchange(seen)?;
         self.take_lines()
-    }
-
-    fn late(&mut self, _late: &SeenLate) -> Result<(), JudgeError> {
-        Ok(())
     }
 
     fn broken(&mut self, _broken: &SeenBreak) -> Result<(), JudgeError> {
@@ -141,7 +152,7 @@ impl<W: Write> View for MotionText<'_, W> {
     fn end(&mut self, ending: &Ending) -> Result<(), JudgeError> {
         self.motion.end_part()?;
         self.take_lines()?;
-        self.motion.outcomes().put(&mut self.lines)?;
+        self.put_outcomes()?;
         self.put_worth()?;
         ending.put(&mut self.lines)?;
         self.write()

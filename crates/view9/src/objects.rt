@@ -1,23 +1,18 @@
 //! A capture as JSON: an object for each line that its report has, each on a line of its own.
 
 mod line;
-mod run;
 mod told;
 mod why;
-mod whys;
 
 use crate::field::Field;
-use crate::follow::show;
-use crate::seen::{Ending, SeenBreak, SeenExchange, SeenLate, View};
+use crate::follow::{show, show_explained};
+use crate::seen::{Ending, SeenBreak, SeenExchange, View, ViewOf};
 use deck9::Profile;
 use line::Line;
-use report9::{Detail, Extent, JudgeError, Scope, Stretch, Verdict};
-pub use run::write_json_run;
-use std::alloc::{AllocError, Global};
+use report9::{Detail, Extent, JudgeError, RunVerdict, Verdict, known_state};
+use std::alloc::Global;
 use std::io::{Read, Write};
 use told::Told;
-pub use why::write_json_why;
-use whys::write_whys;
 
 /// JSON of a capture that is judged.
 #[derive(Drop)]
@@ -38,43 +33,53 @@ pub fn write_json<R: Read + Drop, W: Write>(
     reader: R,
     writer: &mut W,
     view: report9::View,
-    scope: Scope,
-    stretch: Stretch,
-    profile: &Profile,
+    of: ViewOf<'_>,
 ) -> Result<Ending, JudgeError> {
     let detail = match view {
         report9::View::Explain(detail) => Some(detail),
-        report9::View::Verdict => None,
-        report9::View::Why => return write_whys(alloc, reader, writer, scope, stretch, profile),
+        _ => None,
     };
     let mut json = Json {
         alloc,
         writer,
-        profile,
+        profile: of.profile,
         detail,
-        extent: scope.extent,
+        extent: of.scope.extent,
     };
-    show(alloc, reader, &mut json, scope, stretch, profile)
+    match view {
+        report9::View::Why => show_explained(alloc, reader, &mut json, of),
+        _ => show(alloc, reader, &mut json, of),
+    }
 }
 
-/// Writes the object of how a capture ends: of its verdict, or of its totals.
-pub fn write_json_ending<W: Write>(
+/// Writes an object for each line that a run has: for a yes one for each exchange, with the state after it, and then the verdict; for
+/// a no the verdict alone.
+pub fn write_json_run<W: Write>(
     alloc: Global,
     writer: &mut W,
-    ending: &Ending,
+    run: &RunVerdict,
+    profile: &Profile,
 ) -> Result<(), JudgeError> {
-    let line = match ending {
-        Ending::Verdict(Verdict::No { at, reason }) => Line::no(alloc, *at, *reason)?,
-        Ending::Verdict(
-            Verdict::Yes {
-                records,
-                exchanges,
-                tail,
-            },
-        ) => Line::yes(alloc, *records, u64::from(*exchanges), *tail)?,
-        Ending::Totals(totals) => Line::totals(alloc, totals)?,
-    };
-    line.write(alloc, writer)
+    match run {
+        RunVerdict::Yes {
+            past,
+            records,
+            tail,
+            exchanges,
+            states,
+        } => {
+            let mut last = u64::from(*past);
+            for (exchange, state) in exchanges.iter().zip(states.iter()) {
+                last = last.saturating_add(exchange.records() as u64);
+                let mut line = Line::new(alloc, "state");
+                line.put("record", Told::Count(last));
+                line.put_fields(profile, &known_state(state), Field::told(profile.hands));
+                line.write(writer)?;
+            }
+            Line::yes(alloc, *records, exchanges.len() as u64, *tail).write(writer)
+        }
+        RunVerdict::No { at, reason } => Line::no(alloc, *at, *reason).write(writer),
+    }
 }
 
 /// The line of an exchange, told so.
@@ -82,10 +87,10 @@ fn exchange_line<'e>(
     alloc: Global,
     profile: &'e Profile,
     detail: Detail,
-    seen: &'e SeenExchange<'_>,
-) -> Result<Line<'e>, AllocError> {
+    seen: &SeenExchange<'_>,
+) -> Line<'e> {
     let exchange = seen.exchange;
-    let mut line = Line::new(alloc, "exchange")?;
+    let mut line = Line::new(alloc, "exchange");
     line.put("record", Told::Count(u64::from(seen.last)));
     line.put_called(profile, exchange);
     line.put("delay_us", Told::Count(exchange.delay_us));
@@ -96,25 +101,24 @@ fn exchange_line<'e>(
         line.put_blocks(profile.rate, exchange);
         line.put_says(exchange);
     }
-    Ok(line)
+    line
 }
 
 impl<W: Write> View for Json<'_, W> {
     fn exchange(&mut self, seen: &SeenExchange<'_>) -> Result<(), JudgeError> {
         match self.detail {
             Some(detail) if seen.is_shown => {
-                let line = exchange_line(self.alloc, self.profile, detail, seen)?;
-                line.write(self.alloc, self.writer)
+                exchange_line(self.alloc, self.profile, detail, seen).write(self.writer)
             }
             _ => Ok(()),
         }
     }
 
-    fn late(&mut self, late: &SeenLate) -> Result<(), JudgeError> {
+    fn late(&mut self, late: &SeenBreak) -> Result<(), JudgeError> {
         if !late.is_shown {
             return Ok(());
         }
-        Line::late(self.alloc, late.at)?.write(self.alloc, self.writer)
+        Line::late(self.alloc, late.at).write(self.writer)
     }
 
     fn broken(&mut self, broken: &SeenBreak) -> Result<(), JudgeError> {
@@ -122,10 +126,22 @@ impl<W: Write> View for Json<'_, W> {
         if self.extent == Extent::FirstBreak || !broken.is_shown {
             return Ok(());
         }
-        Line::no(self.alloc, broken.at, broken.reason)?.write(self.alloc, self.writer)
+        Line::no(self.alloc, broken.at, broken.reason).write(self.writer)
     }
 
     fn end(&mut self, ending: &Ending) -> Result<(), JudgeError> {
-        write_json_ending(self.alloc, self.writer, ending)
+        let alloc = self.alloc;
+        let line = match ending {
+            Ending::Verdict(Verdict::No { at, reason }) => Line::no(alloc, *at, *reason),
+            Ending::Verdict(
+                Verdict::Yes {
+                    records,
+                    exchanges,
+                    tail,
+                },
+            ) => Line::yes(alloc, *records, u64::from(*exchanges), *tail),
+            Ending::Totals(totals) => Line::totals(alloc, totals),
+        };
+        line.write(self.writer)
     }
 }

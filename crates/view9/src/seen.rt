@@ -1,8 +1,10 @@
 //! What a view is handed of a capture, one event after another.
 
 use block9::{Command, Exchange, Reason};
-use deck9::Knowledge;
-use report9::{JudgeError, Totals, Verdict, WhyNo, put_totals_line, put_verdict_line};
+use deck9::{Knowledge, Profile};
+use report9::{
+    JudgeError, Scope, Stretch, Totals, Verdict, WhyNo, put_totals_line, put_verdict_line,
+};
 use std::alloc::AllocError;
 
 /// An exchange, as it was seen on the line.
@@ -24,20 +26,8 @@ pub struct SeenExchange<'a> {
     pub is_shown: bool,
 }
 
-/// A reply that began too late, of a capture that is judged over all parts. Its part goes on.
-#[derive(Clone, Copy, Debug, PartialEq, Eq)]
-pub struct SeenLate {
-    /// The number of its first record.
-    pub at: u32,
-    /// The time of that record, in microseconds.
-    pub time_us: u64,
-    /// The time since the command's last record, in microseconds: more than the reply limit.
-    pub delay_us: u64,
-    /// Whether it lies in the stretch that is shown.
-    pub is_shown: bool,
-}
-
-/// A record that breaks a rule, and ends its part: nothing is known of the deck from here on.
+/// A record that breaks a rule, and ends its part: nothing is known of the deck from here on. Or where a capture is judged over all
+/// parts: a record with which a reply begins too late. Its part goes on.
 #[derive(Clone, Copy, Debug, PartialEq, Eq)]
 pub struct SeenBreak {
     /// The number of the record.
@@ -73,23 +63,43 @@ impl Ending {
     }
 }
 
-/// Something that is made of the events of a capture. After an error it is told of nothing more.
+/// What a view is made of: how far a capture is judged, what is shown of it, and what its deck is taken for.
+#[derive(Clone, Copy)]
+pub struct ViewOf<'a> {
+    /// How far it is judged, and from where on.
+    pub scope: Scope,
+    /// What is shown of it.
+    pub stretch: Stretch,
+    /// What the deck is taken for.
+    pub profile: &'a Profile,
+}
+
+/// Something that is made of the events of a capture. It passes over those that it does not name. After an error it is told of nothing
+/// more.
 pub trait View {
     /// An exchange came, with which a state of the deck remains.
-    fn exchange(&mut self, seen: &SeenExchange<'_>) -> Result<(), JudgeError>;
+    fn exchange(&mut self, _seen: &SeenExchange<'_>) -> Result<(), JudgeError> {
+        Ok(())
+    }
 
     /// A reply began too late, and its part goes on, unless the same record breaks another rule: that is told next.
-    fn late(&mut self, late: &SeenLate) -> Result<(), JudgeError>;
+    fn late(&mut self, _late: &SeenBreak) -> Result<(), JudgeError> {
+        Ok(())
+    }
 
     /// A record broke a rule, and ends a part.
-    fn broken(&mut self, broken: &SeenBreak) -> Result<(), JudgeError>;
+    fn broken(&mut self, _broken: &SeenBreak) -> Result<(), JudgeError> {
+        Ok(())
+    }
 
     /// The judging came to its end.
-    fn end(&mut self, ending: &Ending) -> Result<(), JudgeError>;
+    fn end(&mut self, _ending: &Ending) -> Result<(), JudgeError> {
+        Ok(())
+    }
 }
 
 /// A view that is also told why a record breaks a rule.
 pub trait ExplainedView: View {
-    /// Why the late reply or the break came that the view is told of next.
-    fn why(&mut self, why: WhyNo) -> Result<(), JudgeError>;
+    /// Why the late reply or the break came that the view is told of next, and whether that lies in the stretch that is shown.
+    fn why(&mut self, why: WhyNo, is_shown: bool) -> Result<(), JudgeError>;
 }

@@ -10,17 +10,6 @@ use indexmap::IndexMap;
 use report9::{put_count, put_text, put_word};
 use std::alloc::{AllocError, Global};
 
-/// At how many exchanges a field was known.
-#[derive(Clone, Copy)]
-struct Times {
-    known: u32,
-    /// A register is known to be set, but not to which time.
-    set: u32,
-}
-
-/// A field that was never known.
-const NEVER: Times = Times { known: 0, set: 0 };
-
 /// At how many exchanges each field was known, and after which commands it was known no more. A count stays at its greatest once
 /// that is reached.
 #[derive(Drop)]
@@ -28,7 +17,9 @@ pub struct Strength<'a> {
     profile: &'a Profile,
     exchanges: u32,
     presets: u32,
-    times: [Times; FIELDS],
+    known: [u32; FIELDS],
+    /// At how many a register is known to be set, but not to which time.
+    set: [u32; FIELDS],
     /// How often each field was known no more after a command.
     lapses: IndexMap<Called<'a>, [u32; FIELDS]>,
 }
@@ -40,7 +31,8 @@ impl<'a> Strength<'a> {
             profile,
             exchanges: 0,
             presets: 0,
-            times: [NEVER; FIELDS],
+            known: [0; FIELDS],
+            set: [0; FIELDS],
             lapses: IndexMap::new(alloc),
         }
     }
@@ -52,11 +44,12 @@ impl<'a> Strength<'a> {
             self.presets = self.presets.saturating_add(1);
         }
         for field in Field::told(self.profile.hands) {
-            let times = &mut self.times[*field as usize];
             match field.value_in(&seen.after) {
-                Value::Set => times.set = times.set.saturating_add(1),
+                Value::Set => self.set[*field as usize] = self.set[*field as usize].saturating_add(
+                    1,
+                ),
                 Value::Unknown => self.count_lapse(*field, seen)?,
-                _ => times.known = times.known.saturating_add(1),
+                _ => self.known[*field as usize] = self.known[*field as usize].saturating_add(1),
             }
         }
         Ok(())
@@ -100,12 +93,12 @@ impl<'a> Strength<'a> {
 
     /// At how many of them a field was known. A register that is set to a time that nobody knows does not count.
     pub fn times_known(&self, field: Field) -> u32 {
-        self.times[field as usize].known
+        self.known[field as usize]
     }
 
     /// At how many of them a register was known to be set, and nobody knew to which time.
     pub fn times_set(&self, field: Field) -> u32 {
-        self.times[field as usize].set
+        self.set[field as usize]
     }
 
     /// So many of the exchanges in tenths of a per cent of them, rounded down; 0 where there is none.
@@ -133,18 +126,9 @@ impl<'a> Strength<'a> {
         put_text(line, " that it acknowledged")
     }
 
-    /// How many commands there are, told apart by what they are called, after which a field was known no more.
-    pub fn lapses(&self) -> usize {
-        self.lapses.len()
-    }
-
-    /// Puts how often each field was known no more after such a command, with no end of a line: after the one at a place in the order in
-    /// which they first came, counted from 0. Where there is no such place nothing is put.
-    pub fn put_lapse(&self, line: &mut Vec<u8>, place: usize) -> Result<(), AllocError> {
-        match self.lapses.get_index(place) {
-            Some((called, lapses)) => put_lapses(line, *called, lapses),
-            None => Ok(()),
-        }
+    /// How often each field was known no more after a command, in the order in which the commands first came.
+    pub fn lapses(&self) -> &IndexMap<Called<'a>, [u32; FIELDS]> {
+        &self.lapses
     }
 
     /// Puts at how many of the exchanges each field was known.
@@ -158,11 +142,11 @@ impl<'a> Strength<'a> {
             // The shown mode comes first of them.
             put_text(line, if *field == Field::Shown { "" } else { ", " })?;
             put_word(line, field.name(), " ")?;
-            let times = self.times[*field as usize];
-            put_share(line, self.tenths(times.known))?;
-            if times.set > 0 {
+            put_share(line, self.tenths(self.times_known(*field)))?;
+            let set = self.times_set(*field);
+            if set > 0 {
                 put_text(line, " (set ")?;
-                put_share(line, self.tenths(times.set))?;
+                put_share(line, self.tenths(set))?;
                 put_text(line, ")")?;
             }
         }
@@ -188,8 +172,8 @@ fn put_share(line: &mut Vec<u8>, tenths: u64) -> Result<(), AllocError> {
     put_text(line, " %")
 }
 
-/// Puts how often each field was known no more after a command.
-fn put_lapses(
+/// Puts how often each field was known no more after a command, with no end of a line.
+pub fn put_lapses(
     line: &mut Vec<u8>,
     called: Called<'_>,
     lapses: &[u32; FIELDS],

@@ -1,16 +1,13 @@
 //! Where somebody must have touched the deck's front panel, as seldom as possible, and what changed.
 
 use crate::changes::Change;
-use crate::decimal::put_seconds;
+use crate::decimal::put_seconds_between;
 use crate::field::Field;
 use crate::follow::show;
-use crate::seen::{Ending, SeenBreak, SeenExchange, SeenLate, View};
+use crate::seen::{Ending, SeenExchange, View, ViewOf};
 use block9::Exchange;
 use deck9::{Profile, State};
-use report9::{
-    Beginning, Extent, JudgeError, Scope, Stretch, Verdict, known_state, put_count, put_text,
-    write_all,
-};
+use report9::{JudgeError, Verdict, known_state, put_count, put_text, write_all};
 use run9::{Move, fewest_moves};
 use std::alloc::{AllocError, Global};
 use std::io::{Read, Write};
@@ -135,9 +132,7 @@ impl Moment {
     /// Puts it behind a label, with its time in seconds.
     fn put(&self, line: &mut Vec<u8>, label: &str) -> Result<(), AllocError> {
         put_count(line, label, u64::from(self.record))?;
-        put_text(line, ", ")?;
-        put_seconds(line, self.time_us)?;
-        put_text(line, " s")
+        put_seconds_between(line, ", ", self.time_us, " s")
     }
 }
 
@@ -147,20 +142,15 @@ pub fn write_touches<R: Read + Drop, W: Write>(
     alloc: Global,
     reader: R,
     writer: &mut W,
-    beginning: Beginning,
-    profile: &Profile,
+    of: ViewOf<'_>,
 ) -> Result<Ending, JudgeError> {
-    let mut view = Touches {
+    let mut touches = Touches {
         alloc,
         writer,
-        profile,
+        profile: of.profile,
         touched: Touched::new(alloc),
     };
-    let scope = Scope {
-        extent: Extent::FirstBreak,
-        beginning,
-    };
-    show(alloc, reader, &mut view, scope, Stretch::ALL, profile)
+    show(alloc, reader, &mut touches, of)
 }
 
 /// What is told of the touches of a capture, and where it is written.
@@ -175,14 +165,6 @@ struct Touches<'a, W: Write> {
 impl<W: Write> View for Touches<'_, W> {
     fn exchange(&mut self, seen: &SeenExchange<'_>) -> Result<(), JudgeError> {
         Ok(self.touched.take(seen)?)
-    }
-
-    fn late(&mut self, _late: &SeenLate) -> Result<(), JudgeError> {
-        Ok(())
-    }
-
-    fn broken(&mut self, _broken: &SeenBreak) -> Result<(), JudgeError> {
-        Ok(())
     }
 
     fn end(&mut self, ending: &Ending) -> Result<(), JudgeError> {

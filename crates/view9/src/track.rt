@@ -1,6 +1,6 @@
 //! The times that a deck answers, followed from one to the next.
 
-use crate::decimal::{put_fixed, put_seconds};
+use crate::decimal::{put_fixed, put_seconds_between};
 use crate::seen::SeenExchange;
 use report9::{TextBuffer, put_count, put_text, put_word};
 use std::alloc::AllocError;
@@ -46,10 +46,8 @@ pub(crate) struct Track {
     pub(crate) still_us: u64,
     /// How often it jumped.
     pub(crate) jumps: u32,
-    /// The answer before its first jump.
-    pub(crate) jump_from: Answer,
-    /// The answer after it.
-    pub(crate) jump_to: Answer,
+    /// The answers before and after its first jump.
+    pub(crate) jump: Option<(Answer, Answer)>,
 }
 
 impl Place {
@@ -70,9 +68,7 @@ impl Place {
     /// Puts the record and its time, as a line begins.
     pub(crate) fn put(self, line: &mut Vec<u8>) -> Result<(), AllocError> {
         put_count(line, "record ", u64::from(self.record))?;
-        put_text(line, ", ")?;
-        put_seconds(line, self.time_us)?;
-        put_text(line, " s: ")
+        put_seconds_between(line, ", ", self.time_us, " s: ")
     }
 }
 
@@ -135,8 +131,7 @@ impl Track {
             still: *first,
             still_us: 0,
             jumps: 0,
-            jump_from: *first,
-            jump_to: *first,
+            jump: None,
         }
     }
 
@@ -146,10 +141,7 @@ impl Track {
         self.moved = self.moved.saturating_add(by);
         if self.last.jumps_to(answer) {
             self.jumps = self.jumps.saturating_add(1);
-            if self.jumps == 1 {
-                self.jump_from = self.last;
-                self.jump_to = *answer;
-            }
+            self.jump = self.jump.or(Some((self.last, *answer)));
         }
         if by != 0 {
             self.same = *answer;
@@ -185,18 +177,11 @@ impl Track {
         self.last.put(line)?;
         let frames = self.moved.unsigned_abs();
         put_count(line, if self.moved < 0 { ", -" } else { ", " }, frames)?;
-        put_text(
-            line,
-            if frames == 1 {
-                " frame in "
-            } else {
-                " frames in "
-            },
-        )?;
-        put_seconds(line, self.elapsed_us())?;
+        put_word(line, " frame", if frames == 1 { "" } else { "s" })?;
         let hundredths = self.hundredths();
         let is_back = self.moved < 0 && hundredths > 0;
-        put_text(line, if is_back { " s, -" } else { " s, " })?;
+        let sign = if is_back { " s, -" } else { " s, " };
+        put_seconds_between(line, " in ", self.elapsed_us(), sign)?;
         put_fixed(line, hundredths, 2)?;
         put_text(line, " of real time")
     }

@@ -1,7 +1,7 @@
 //! Transport commands: what each asks for, and what came of one that was acknowledged.
 
 use crate::called::Called;
-use crate::decimal::put_seconds;
+use crate::decimal::put_seconds_between;
 use crate::seen::SeenExchange;
 use crate::track::{Place, Track, put_track};
 use block9::Command;
@@ -29,13 +29,6 @@ pub(crate) struct Transport<'a> {
     pub(crate) mode: Option<Mode>,
     /// The way that it asks for.
     pub(crate) way: Way,
-}
-
-/// How many statuses showed these modes.
-#[derive(Clone, Copy)]
-pub(crate) struct Shown {
-    modes: ModeSet,
-    statuses: u32,
 }
 
 /// A transport command that was acknowledged, and what came since.
@@ -138,7 +131,11 @@ impl<'a> Followed<'a> {
     }
 
     /// Puts its text: what came of it, how often which modes were shown, and the times.
-    pub(crate) fn put(&self, line: &mut Vec<u8>, shown: &[Shown]) -> Result<(), AllocError> {
+    pub(crate) fn put(
+        &self,
+        line: &mut Vec<u8>,
+        shown: &[(ModeSet, u32)],
+    ) -> Result<(), AllocError> {
         self.transport.called.put(line)?;
         put_text(line, if self.is_local { " in local: " } else { ": " })?;
         match (self.transport.mode, self.response_us) {
@@ -151,9 +148,9 @@ impl<'a> Followed<'a> {
 
     /// Puts when the mode was shown first.
     fn put_response(&self, line: &mut Vec<u8>, mode: Mode, us: u64) -> Result<(), AllocError> {
-        put_word(line, mode.name(), " shown after ")?;
-        put_seconds(line, us)?;
-        put_count(line, " s, by status ", u64::from(self.response_status))?;
+        put_text(line, mode.name())?;
+        put_seconds_between(line, " shown after ", us, " s, by status ")?;
+        put_count(line, "", u64::from(self.response_status))?;
         put_count(line, " of ", u64::from(self.statuses))
     }
 
@@ -167,40 +164,20 @@ impl<'a> Followed<'a> {
         if self.statuses == 0 {
             return put_text(line, "no status");
         }
-        let is_one = self.statuses == 1;
+        let plural = if self.statuses == 1 { "" } else { "es" };
         put_count(line, "", u64::from(self.statuses))?;
-        put_text(
-            line,
-            if is_one {
-                " status over "
-            } else {
-                " statuses over "
-            },
-        )?;
-        put_seconds(line, self.statuses_us)?;
-        put_text(line, " s")
+        put_word(line, " status", plural)?;
+        put_seconds_between(line, " over ", self.statuses_us, " s")
     }
-}
-
-/// Counts a status that shows these modes. They stay in the order in which they first came.
-pub(crate) fn count_shown(shown: &mut Vec<Shown>, modes: ModeSet) -> Result<(), AllocError> {
-    for count in shown.iter_mut() {
-        if count.modes == modes {
-            count.statuses = count.statuses.saturating_add(1);
-            return Ok(());
-        }
-    }
-    shown.push(Shown { modes, statuses: 1 })?;
-    Ok(())
 }
 
 /// Puts how often which modes were shown.
-fn put_shown(line: &mut Vec<u8>, shown: &[Shown]) -> Result<(), AllocError> {
+fn put_shown(line: &mut Vec<u8>, shown: &[(ModeSet, u32)]) -> Result<(), AllocError> {
     let mut before = " (";
-    for count in shown {
+    for (modes, statuses) in shown {
         put_text(line, before)?;
-        put_modes(line, count.modes)?;
-        put_count(line, " ", u64::from(count.statuses))?;
+        put_modes(line, *modes)?;
+        put_count(line, " ", u64::from(*statuses))?;
         before = ", ";
     }
     put_text(line, if shown.is_empty() { "" } else { ")" })

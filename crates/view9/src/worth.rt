@@ -1,7 +1,7 @@
 //! What is worth looking at of what a deck did.
 
-use crate::decimal::put_seconds;
-use crate::motion_lines::MotionLines;
+use crate::decimal::put_seconds_between;
+use crate::motion::{MotionLine, tell};
 use crate::track::{Place, Track};
 use crate::transport::{Followed, Transport};
 use deck9::{Mode, ModeSet};
@@ -58,102 +58,97 @@ impl Showing {
             .or(ModeSet::just(Mode::Eject));
         self.modes.is_some() && self.modes.or(standing) == standing
     }
-}
 
-/// Weighs what was shown after this command.
-pub(crate) fn weigh(
-    told: &mut MotionLines,
-    showing: &Showing,
-    followed: Option<&Followed<'_>>,
-) -> Result<(), AllocError> {
-    let Some(track) = &showing.times else {
-        return Ok(());
-    };
-    if showing.is_just(Mode::Play) || showing.is_just(Mode::Rec) {
-        weigh_still(told, showing, track)?;
-        weigh_jumps(told, showing, track)?;
-    }
-    if !track.runs() {
-        return Ok(());
-    }
-    if showing.stands() {
-        return tell_run(told, showing, track, None);
-    }
-    match followed {
-        Some(command) if is_against(command, showing, track) => {
-            tell_run(told, showing, track, followed)
+    /// Weighs what was shown after this command.
+    pub(crate) fn weigh(
+        &self,
+        told: &mut Vec<MotionLine>,
+        followed: Option<&Followed<'_>>,
+    ) -> Result<(), AllocError> {
+        let Some(track) = &self.times else {
+            return Ok(());
+        };
+        if self.is_just(Mode::Play) || self.is_just(Mode::Rec) {
+            self.weigh_still(told, track)?;
+            self.weigh_jumps(told, track)?;
         }
-        _ => Ok(()),
+        if !track.runs() {
+            return Ok(());
+        }
+        if self.stands() {
+            return self.tell_run(told, track, None);
+        }
+        match followed {
+            Some(command) if self.is_against(command, track) => self.tell_run(
+                told, track, followed,
+            ),
+            _ => Ok(()),
+        }
     }
-}
 
-/// Weighs how long the time stood still.
-fn weigh_still(told: &mut MotionLines, showing: &Showing, track: &Track) -> Result<(), AllocError> {
-    let still = &track.still;
-    if track.still_us < STILL_US {
-        return Ok(());
+    /// Weighs how long the time stood still.
+    fn weigh_still(&self, told: &mut Vec<MotionLine>, track: &Track) -> Result<(), AllocError> {
+        let still = &track.still;
+        if track.still_us < STILL_US {
+            return Ok(());
+        }
+        let mut text = Vec::new(*told.allocator());
+        put_word(&mut text, still.name(), " stands still at ")?;
+        still.put(&mut text)?;
+        put_seconds_between(&mut text, " for ", track.still_us, " s")?;
+        self.put_while(&mut text)?;
+        tell(told, still.place, true, text)
     }
-    let text = &mut told.text;
-    put_word(text, still.name(), " stands still at ")?;
-    still.put(text)?;
-    put_text(text, " for ")?;
-    put_seconds(text, track.still_us)?;
-    put_text(text, " s")?;
-    put_while(text, showing)?;
-    told.end_line(still.place, true)
-}
 
-/// Weighs how often the time jumped.
-fn weigh_jumps(told: &mut MotionLines, showing: &Showing, track: &Track) -> Result<(), AllocError> {
-    let (from, to) = (&track.jump_from, &track.jump_to);
-    if track.jumps == 0 {
-        return Ok(());
+    /// Weighs how often the time jumped.
+    fn weigh_jumps(&self, told: &mut Vec<MotionLine>, track: &Track) -> Result<(), AllocError> {
+        let Some((from, to)) = &track.jump else {
+            return Ok(());
+        };
+        let mut text = Vec::new(*told.allocator());
+        put_word(&mut text, to.name(), " jumps from ")?;
+        from.put(&mut text)?;
+        put_text(&mut text, " to ")?;
+        to.put(&mut text)?;
+        put_seconds_between(&mut text, " in ", to.place.since(from.place), " s")?;
+        if track.jumps > 1 {
+            put_count(&mut text, ", the first of ", u64::from(track.jumps))?;
+            put_text(&mut text, " jumps")?;
+        }
+        self.put_while(&mut text)?;
+        tell(told, to.place, true, text)
     }
-    let text = &mut told.text;
-    put_word(text, to.name(), " jumps from ")?;
-    from.put(text)?;
-    put_text(text, " to ")?;
-    to.put(text)?;
-    put_text(text, " in ")?;
-    put_seconds(text, to.place.since(from.place))?;
-    put_text(text, " s")?;
-    if track.jumps > 1 {
-        put_count(text, ", the first of ", u64::from(track.jumps))?;
-        put_text(text, " jumps")?;
+
+    /// Tells of a time that runs, against a command where one is given.
+    fn tell_run(
+        &self,
+        told: &mut Vec<MotionLine>,
+        track: &Track,
+        against: Option<&Followed<'_>>,
+    ) -> Result<(), AllocError> {
+        let mut text = Vec::new(*told.allocator());
+        put_word(&mut text, track.name(), " runs")?;
+        if let Some(command) = against {
+            put_text(&mut text, " against ")?;
+            command.transport.called.put(&mut text)?;
+            put_count(&mut text, " of record ", u64::from(command.place.record))?;
+        }
+        put_text(&mut text, ", ")?;
+        track.put(&mut text)?;
+        self.put_while(&mut text)?;
+        tell(told, self.from, true, text)
     }
-    put_while(text, showing)?;
-    told.end_line(to.place, true)
-}
 
-/// Tells of a time that runs, against a command where one is given.
-fn tell_run(
-    told: &mut MotionLines,
-    showing: &Showing,
-    track: &Track,
-    against: Option<&Followed<'_>>,
-) -> Result<(), AllocError> {
-    let text = &mut told.text;
-    put_word(text, track.name(), " runs")?;
-    if let Some(command) = against {
-        put_text(text, " against ")?;
-        command.transport.called.put(text)?;
-        put_count(text, " of record ", u64::from(command.place.record))?;
+    /// Whether the command's mode is shown, and the time runs against its way.
+    fn is_against(&self, command: &Followed<'_>, track: &Track) -> bool {
+        let transport = &command.transport;
+        self.is_asked_by(transport) && transport.way.is_against(track.moved)
     }
-    put_text(text, ", ")?;
-    track.put(text)?;
-    put_while(text, showing)?;
-    told.end_line(showing.from, true)
-}
 
-/// Whether the command's mode is shown, and the time runs against its way.
-fn is_against(command: &Followed<'_>, showing: &Showing, track: &Track) -> bool {
-    let transport = &command.transport;
-    showing.is_asked_by(transport) && transport.way.is_against(track.moved)
-}
-
-/// Puts what is shown meanwhile.
-fn put_while(text: &mut Vec<u8>, showing: &Showing) -> Result<(), AllocError> {
-    put_text(text, ", while ")?;
-    put_modes(text, showing.modes)?;
-    put_text(text, " is shown")
+    /// Puts what is shown meanwhile.
+    fn put_while(&self, text: &mut Vec<u8>) -> Result<(), AllocError> {
+        put_text(text, ", while ")?;
+        put_modes(text, self.modes)?;
+        put_text(text, " is shown")
+    }
 }

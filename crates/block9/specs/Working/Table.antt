@@ -16,7 +16,6 @@ use Rattle.block9.specs.declared.place.Place.TheVariants.{Idle, InCommand, After
 use Rattle.block9.specs.declared.reason.Reason.{Reason}
 use Rattle.block9.specs.declared.reason.Reason.TheVariants.{WrongGroup, WrongSum, ByteGap, ReplyWithoutCommand, ReplyInsideCommand, CommandBeforeReply, CommandInsideReply, WrongReply, InvalidCommandTime, InvalidReplyTime, LateReply, NoReply}
 use Rattle.block9.specs.Working.Body.{block_of}
-use Rattle.block9.specs.Block.{head_of}
 use Rattle.block9.specs.Command.{command_of, is_reply_time_valid}
 use Rattle.block9.specs.Replies.{takes}
 use Rattle.block9.specs.Line.{allows, block_len, byte_gap, bytes_of, group_in, last_time, reply_limit}
@@ -80,7 +79,7 @@ command_fault (Some c) = None
 -- a reply to a command of this block, where that has no meaning, or does not take the reply, or the reply has a time that is not valid
 abbrev pub reply_fault : LineRules → Block → Option Command → Block → Option Reason
 reply_fault rules block None reply = Some InvalidCommandTime
-reply_fault rules block (Some c) reply = if takes rules.replies (head_of block) c reply then (if is_reply_time_valid rules.rate c reply then None else Some InvalidReplyTime) else Some WrongReply
+reply_fault rules block (Some c) reply = if takes rules.replies block c reply then (if is_reply_time_valid rules.rate c reply then None else Some InvalidReplyTime) else Some WrongReply
 
 -- a reply to the command of this block
 abbrev pub answer_fault : LineRules → Block → Block → Option Reason

@@ -29,16 +29,20 @@ fn table_of(
     Ok(table)
 }
 
-/// TC GEN SENSE with two replies, one with any number of data, DEVICE TYPE with one more, and a command with a NAK alone.
-const NAMED: [(u32, Forms); 4] = [
+/// TC GEN SENSE with two replies, one with any number of data, DEVICE TYPE with one more, a command with a NAK alone; CURRENT TIME SENSE,
+/// and two of its selectors, one that is listed and one that is not.
+const NAMED: [(u32, Forms); 7] = [
     (0x61_0A, &[(7, Some(4), 0x08), (7, Some(8), 0x08)]),
     (0x62_21, &[(7, None, 0x21)]),
     (0x00_11, &[(1, Some(3), 0x11)]),
     (0x20_61, &[(1, Some(1), 0x12)]),
+    (0x61_0C, &[(7, Some(8), 0x04)]),
+    (0x61_0C_03, &[(7, Some(4), 0x05)]),
+    (0x61_0C_10, &[(7, Some(4), 0x07), (7, Some(4), 0x05)]),
 ];
 
 /// A command's block without its checksum, a reply's, and whether the command takes the reply.
-const ROWS: [(&[u8], &[u8], bool); 19] = [
+const ROWS: [(&[u8], &[u8], bool); 32] = [
     (&[0x61, 0x0A, 0x01], &[0x74, 0x08, 0, 0, 0, 0], true),
     (
         &[0x61, 0x0A, 0x01],
@@ -62,6 +66,37 @@ const ROWS: [(&[u8], &[u8], bool); 19] = [
     (&[0x62, 0x0A, 0, 0], &[0x10, 0x01], true),
     (&[0x20, 0x01], &[0x10, 0x01], true),
     (&[0x20, 0x01], &[0x70, 0x21], false),
+    // A selector without a line of its own: those of CURRENT TIME SENSE, and its own where it is listed.
+    (
+        &[0x61, 0x0C, 0x01],
+        &[0x78, 0x04, 0, 0, 0, 0, 0, 0, 0, 0],
+        true,
+    ),
+    (&[0x61, 0x0C, 0x01], &[0x74, 0x16, 0, 0, 0, 0], true),
+    (&[0x61, 0x0C, 0x01], &[0x74, 0x05, 0, 0, 0, 0], false),
+    (
+        &[0x61, 0x0C, 0x11],
+        &[0x78, 0x04, 0, 0, 0, 0, 0, 0, 0, 0],
+        true,
+    ),
+    (&[0x61, 0x0C, 0x11], &[0x74, 0x04, 0, 0, 0, 0], false),
+    // With a line of its own that holds alone, beside its own replies where it is listed.
+    (&[0x61, 0x0C, 0x03], &[0x74, 0x05, 0, 0, 0, 0], true),
+    (&[0x61, 0x0C, 0x03], &[0x74, 0x16, 0, 0, 0, 0], true),
+    (
+        &[0x61, 0x0C, 0x03],
+        &[0x78, 0x04, 0, 0, 0, 0, 0, 0, 0, 0],
+        false,
+    ),
+    (&[0x61, 0x0C, 0x10], &[0x74, 0x05, 0, 0, 0, 0], true),
+    (&[0x61, 0x0C, 0x10], &[0x74, 0x07, 0, 0, 0, 0], true),
+    (&[0x61, 0x0C, 0x10], &[0x74, 0x04, 0, 0, 0, 0], false),
+    (
+        &[0x61, 0x0C, 0x10],
+        &[0x78, 0x04, 0, 0, 0, 0, 0, 0, 0, 0],
+        false,
+    ),
+    (&[0x61, 0x0C, 0x10], &[0x11, 0x12, 0x01], true),
 ];
 
 /// The block that these bytes begin, with its checksum.

@@ -49,17 +49,17 @@ impl Listed {
     /// Puts the number of the record.
     fn put_record(&self, html: &mut Markup) {
         html.put_mark("record ");
-        html.put_thousands(u64::from(self.run.first().at));
+        html.put_thousands(u64::from(self.run.first.at));
     }
 
     /// Puts the line that always stands there.
     fn put_summary(&self, html: &mut Markup) {
         html.put_mark("<summary><span class=\"break-line\"><span>");
-        put_clock(html, self.run.first().time_us);
+        put_clock(html, self.run.first.time_us);
         html.put_mark("</span> <span class=\"soft\">");
         self.put_record(html);
         html.put_mark("</span> <span>");
-        put_reason(html, self.run.first().reason);
+        put_reason(html, self.run.first.reason);
         html.put_mark("</span> <span>");
         html.put_piece(&self.sentence);
         self.put_row(html);
@@ -68,7 +68,7 @@ impl Listed {
 
     /// Puts how many breaks there are and up to which record and time, where there are several.
     fn put_row(&self, html: &mut Markup) {
-        if self.run.breaks() == 1 {
+        if self.run.breaks == 1 {
             return;
         }
         html.put_mark(" ");

@@ -145,6 +145,49 @@ const TAKEN: &[Taken] = &[
         ],
         replies: &[],
     },
+    // Replies by selector: of listed selectors and others, beside the command's own line, in digits of either case.
+    Taken {
+        text: "[replies]\n'61 0c 03' = ['74 05']\n'61 0C' = ['7* 04']\n'61 0C fF' = ['78 04']\n'61 0C 00' = ['11 12']\n",
+        forgets: &[],
+        also_forgets: &[],
+        goals: &[],
+        names: &[],
+        adds: &[],
+        replies: &[
+            (
+                0x61_0C_03,
+                &[ReplyForm {
+                    group: 7,
+                    count: Some(4),
+                    code: 0x05,
+                }],
+            ),
+            (
+                0x61_0C,
+                &[ReplyForm {
+                    group: 7,
+                    count: None,
+                    code: 0x04,
+                }],
+            ),
+            (
+                0x61_0C_FF,
+                &[ReplyForm {
+                    group: 7,
+                    count: Some(8),
+                    code: 0x04,
+                }],
+            ),
+            (
+                0x61_0C_00,
+                &[ReplyForm {
+                    group: 1,
+                    count: Some(1),
+                    code: 0x12,
+                }],
+            ),
+        ],
+    },
     // Replies: to listed commands and others, in any order and twice, of every group that a deck may send, with no data and with
     // fifteen, with any number of them, and in digits of either case.
     Taken {

@@ -294,6 +294,30 @@ const REFUSED: &[(&'static [u8], &'static str)] = &[
         "[replies] \"61 0\": not two bytes in hexadecimal, as \"20 61\"",
     ),
     (
+        b"[replies]\n\"60 20 01\" = [\"74 08\"]",
+        "[replies] \"60 20 01\": not two bytes in hexadecimal, as \"20 61\"",
+    ),
+    (
+        b"[replies]\n\"61 0C\\t03\" = [\"74 08\"]",
+        "[replies] \"61 0C\\t03\": not two bytes in hexadecimal, as \"20 61\"",
+    ),
+    (
+        b"[replies]\n\"61 0C 0a\" = [\"74 08\"]\n\"61 0C 0A\" = [\"74 08\"]",
+        "[replies] \"61 0C 0a\": named twice",
+    ),
+    (
+        b"[forgets]\n\"61 0C 03\" = \"nothing\"",
+        "[forgets] \"61 0C 03\": not two bytes in hexadecimal, as \"20 61\"",
+    ),
+    (
+        b"[names]\n\"61 0C 05\" = \"A\"",
+        "[names] \"61 0C 05\": not two bytes in hexadecimal, as \"20 61\"",
+    ),
+    (
+        b"[goals]\n\"61 0C 05\" = [\"REC\"]",
+        "[goals] \"61 0C 05\": not two bytes in hexadecimal, as \"20 61\"",
+    ),
+    (
         b"[replies]\n\"74 08\" = [\"74 08\"]",
         "[replies] \"74 08\": groups 1 and 7 are a deck's replies, not commands",
     ),

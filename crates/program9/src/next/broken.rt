@@ -7,7 +7,7 @@ use deck9::Profile;
 use report9::{JudgeError, Scope, Stretch, WhyNo};
 use std::alloc::Global;
 use std::io::Read;
-use view9::{Ending, ExplainedView, SeenBreak, SeenExchange, SeenLate, View, show_explained};
+use view9::{ExplainedView, View, ViewOf, show_explained};
 
 /// A break after which there is something to ask.
 #[derive(Clone, Copy, Debug, PartialEq, Eq)]
@@ -27,7 +27,12 @@ pub(crate) fn first_broken<R: Read + Drop>(
 ) -> Result<Option<Broken>, JudgeError> {
     let mut first = First { found: None };
     let reader = text_again::<R>(text);
-    let shown = show_explained(alloc, reader, &mut first, scope, Stretch::ALL, profile);
+    let of = ViewOf {
+        scope,
+        stretch: Stretch::ALL,
+        profile,
+    };
+    let shown = show_explained(alloc, reader, &mut first, of);
     match (first.found, shown) {
         (None, Err(refusal)) => Err(refusal),
         (found, _) => Ok(found),
@@ -40,27 +45,11 @@ struct First {
     found: Option<Broken>,
 }
 
-impl View for First {
-    fn exchange(&mut self, _seen: &SeenExchange<'_>) -> Result<(), JudgeError> {
-        Ok(())
-    }
-
-    fn late(&mut self, _late: &SeenLate) -> Result<(), JudgeError> {
-        Ok(())
-    }
-
-    fn broken(&mut self, _broken: &SeenBreak) -> Result<(), JudgeError> {
-        Ok(())
-    }
-
-    fn end(&mut self, _ending: &Ending) -> Result<(), JudgeError> {
-        Ok(())
-    }
-}
+impl View for First {}
 
 impl ExplainedView for First {
     /// Once one is found the judging ends, as after a write that failed.
-    fn why(&mut self, why: WhyNo) -> Result<(), JudgeError> {
+    fn why(&mut self, why: WhyNo, _is_shown: bool) -> Result<(), JudgeError> {
         self.found = broken_of(&why);
         match self.found {
             Some(_) => Err(JudgeError::Write),

@@ -5,7 +5,7 @@ ghost use Rattle.view9.specs.Json.{IsObject};
 ghost use Rattle.view9.specs.Working.{AppendsMembers};
 
 use crate::field::Field;
-use crate::objects::told::Told;
+use crate::objects::told::{Told, text_in};
 use bitflags::Flags;
 use block9::{Command, Exchange, NakBits, Reason};
 use deck9::{Knowledge, Profile};
@@ -34,58 +34,50 @@ pub(super) struct Line<'a> {
 
 impl<'a> Line<'a> {
     /// A line of this kind.
-    pub(super) fn new(alloc: Global, kind: &'a str) -> Result<Line<'a>, AllocError> {
-        let mut line = Line {
-            members: Vec::with_capacity(alloc, MEMBERS)?,
-            is_short: false,
+    pub(super) fn new(alloc: Global, kind: &'a str) -> Line<'a> {
+        let (members, is_short) = match Vec::with_capacity(alloc, MEMBERS) {
+            Ok(members) => (members, false),
+            Err(_) => (Vec::new(alloc), true),
         };
+        let mut line = Line { members, is_short };
         line.put("line", Told::Word(kind));
-        Ok(line)
+        line
     }
 
     /// The verdict, where it is a yes.
-    pub(super) fn yes(
-        alloc: Global,
-        records: u32,
-        exchanges: u64,
-        open: u32,
-    ) -> Result<Line<'a>, AllocError> {
-        let mut line = Line::new(alloc, "verdict")?;
+    pub(super) fn yes(alloc: Global, records: u32, exchanges: u64, open: u32) -> Line<'a> {
+        let mut line = Line::new(alloc, "verdict");
         line.put("verdict", Told::Word("yes"));
-        line.put_counts(&[
-            ("records", u64::from(records)),
-            ("exchanges", exchanges),
-            ("open", u64::from(open)),
-        ]);
-        Ok(line)
+        line.put("records", Told::Count(u64::from(records)));
+        line.put("exchanges", Told::Count(exchanges));
+        line.put("open", Told::Count(u64::from(open)));
+        line
     }
 
     /// The verdict, where it is a no.
-    pub(super) fn no(alloc: Global, at: u32, reason: Reason) -> Result<Line<'a>, AllocError> {
-        let mut line = Line::new(alloc, "verdict")?;
+    pub(super) fn no(alloc: Global, at: u32, reason: Reason) -> Line<'a> {
+        let mut line = Line::new(alloc, "verdict");
         line.put("verdict", Told::Word("no"));
         line.put_break(at, reason);
-        Ok(line)
+        line
     }
 
     /// A late reply that ends no part.
-    pub(super) fn late(alloc: Global, at: u32) -> Result<Line<'a>, AllocError> {
-        let mut line = Line::new(alloc, "late_reply")?;
+    pub(super) fn late(alloc: Global, at: u32) -> Line<'a> {
+        let mut line = Line::new(alloc, "late_reply");
         line.put_break(at, Reason::LateReply);
-        Ok(line)
+        line
     }
 
     /// The totals.
-    pub(super) fn totals(alloc: Global, totals: &Totals) -> Result<Line<'a>, AllocError> {
-        let mut line = Line::new(alloc, "breaks")?;
-        line.put_counts(&[
-            ("breaks", totals.breaks),
-            ("records", u64::from(totals.records)),
-            ("exchanges", u64::from(totals.exchanges)),
-            ("passed_over", u64::from(totals.passed_over)),
-            ("open", u64::from(totals.tail)),
-        ]);
-        Ok(line)
+    pub(super) fn totals(alloc: Global, totals: &Totals) -> Line<'a> {
+        let mut line = Line::new(alloc, "breaks");
+        line.put("breaks", Told::Count(totals.breaks));
+        line.put("records", Told::Count(u64::from(totals.records)));
+        line.put("exchanges", Told::Count(u64::from(totals.exchanges)));
+        line.put("passed_over", Told::Count(u64::from(totals.passed_over)));
+        line.put("open", Told::Count(u64::from(totals.tail)));
+        line
     }
 
     /// Puts a member to the end.
@@ -111,27 +103,39 @@ impl<'a> Line<'a> {
         self.put_text(name, |text| put_hex(text, u32::from(byte)));
     }
 
-    /// Puts numbers, each by its name.
-    pub(super) fn put_counts(&mut self, counts: &[(&'a str, u64)]) {
-        for (name, count) in counts {
-            self.put(name, Told::Count(*count));
+    /// Puts a member, where there is one.
+    pub(super) fn put_some(&mut self, name: &'a str, told: Option<Told<'a>>) {
+        match told {
+            Some(told) => self.put(name, told),
+            None => {}
         }
     }
 
     /// Puts a time, where there is one.
     pub(super) fn put_time(&mut self, name: &'a str, rate: Rate, time: Option<TimeCode>) {
-        match time {
-            Some(time) => self.put(name, Told::Time(time.text_at(rate))),
-            None => {}
-        }
+        self.put_some(name, time.map(|time| Told::Time(time.text_at(rate))));
     }
 
     /// Puts what a command is called, where it has a name.
     pub(super) fn put_name(&mut self, profile: &'a Profile, command: &Command) {
-        match profile.name_of(command) {
-            Some(name) => self.put("command", Told::Name(name)),
-            None => {}
-        }
+        let name = profile.name_of(command);
+        self.put_some("command", name.map(|name| Told::Word(text_in(name))));
+    }
+
+    /// Puts the numbers of the first and the last of so many records, and the time of the first.
+    pub(super) fn put_records(&mut self, last: u64, records: usize, time_us: u64) {
+        let first = last.saturating_sub(records as u64).saturating_add(1);
+        self.put("first_record", Told::Count(first));
+        self.put("record", Told::Count(last));
+        self.put("time_us", Told::Count(time_us));
+    }
+
+    /// Puts how many bytes a block wants, where more are missing than the one that breaks a rule.
+    pub(super) fn put_length(&mut self, wanted: Option<usize>) {
+        self.put_some(
+            "block_length",
+            wanted.map(|wanted| Told::Count(wanted as u64)),
+        );
     }
 
     /// Puts what the command and the reply of an exchange are called, with the bits of a NAK.
@@ -176,23 +180,23 @@ impl<'a> Line<'a> {
     }
 
     /// Writes the line, in one piece; an error where memory was refused for a member.
-    pub(super) fn write<W: Write>(&self, alloc: Global, writer: &mut W) -> Result<(), JudgeError>
+    pub(super) fn write<W: Write>(&self, writer: &mut W) -> Result<(), JudgeError>
         ensures whole { OnOk result (self.now.is_short ≡ false) }
         ensures object { OnOk result ((text : List ℕ) × IsObject text × Appends (W.contents writer.old) (W.contents writer.new) (text ++ 0x0A ∷ [])) }
     {
         if self.is_short {
             return Err(AllocError.into());
         }
-        let mut text = self.text(alloc)?;
+        let mut text = self.text()?;
         text.push(b'\n').map_err(AllocError::from)?;
         Ok(write_all(writer, text.as_slice())?)
     }
 
     /// The object.
-    fn text(&self, alloc: Global) -> Result<Vec<u8>, AllocError>
+    fn text(&self) -> Result<Vec<u8>, AllocError>
         ensures { IfOk result (λ text. IsObject text.items) }
     {
-        let room = Vec::with_capacity(alloc, LENGTH)?;
+        let room = Vec::with_capacity(*self.members.allocator(), LENGTH)?;
         let mut out = Writer::new(room);
         out.begin_object()?;
         self.write_members(&mut out)?;

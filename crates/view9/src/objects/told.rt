@@ -19,8 +19,6 @@ pub(super) enum Told<'a> {
     Word(&'a str),
     /// A text.
     Text(Vec<u8>),
-    /// A command's name, which a sheet may have given.
-    Name(&'a [u8]),
     /// A time.
     Time([u8; 11]),
     /// The names of modes, as a list.
@@ -50,7 +48,6 @@ impl Told<'_> {
             Told::Count(count) => write_count(out, *count),
             Told::Word(word) => write_text(out, word),
             Told::Text(text) => write_text(out, text_in(text.as_slice())),
-            Told::Name(name) => write_text(out, text_in(name)),
             Told::Time(time) => write_text(out, text_in(time)),
             Told::Modes(modes) => write_modes(out, *modes),
             Told::Bits(nak) => write_bits(out, *nak),
@@ -60,7 +57,7 @@ impl Told<'_> {
 }
 
 /// The text that these bytes are. What commands are called is text, and so are times.
-fn text_in(bytes: &[u8]) -> &str {
+pub(super) fn text_in(bytes: &[u8]) -> &str {
     std::str::from_utf8(bytes).unwrap_or("")
 }
 

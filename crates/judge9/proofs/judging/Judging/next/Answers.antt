@@ -17,6 +17,11 @@ returns-in-Going-clause-ready g c =
     next_ready c.args.self.now c.next-came.new.self c.tell.new.self c.next-came.result c.tell.result
     (going_moves c.args.self.now c.next-came.new.self c.next-came.result c.in-Going.is c.next-came.ensures) c.tell.ensures
 
+pub returns-in-Going-clause-shows : goal.returns-in-Going-clause-shows
+returns-in-Going-clause-shows g c =
+    next_shows c.args.self.now c.next-came.new.self c.tell.new.self c.next-came.result c.tell.result
+    (going_moves c.args.self.now c.next-came.new.self c.next-came.result c.in-Going.is c.next-came.ensures) c.tell.ensures
+
 pub returns-in-Going-clause-closer : goal.returns-in-Going-clause-closer
 returns-in-Going-clause-closer g c =
     next_closer c.args.self.now c.next-came.new.self c.tell.new.self c.next-came.result c.tell.result
