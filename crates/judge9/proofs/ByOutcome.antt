@@ -1,14 +1,13 @@
 -- What is told of records, by what each of them does.
-use Rattle.std.specs.Prelude.{◌≡◌, ℕ, ◌+◌, Bool, false, if◌then◌else◌, List, [], ◌∷◌, ◌++◌}
-use Rattle.capture9.specs.declared.line_byte.LineByte.{LineByte}
-use Rattle.block9.specs.declared.exchange.Exchange.{Exchange}
+use Rattle.std.specs.Prelude.{if◌then◌else◌, ◌++◌, ◌+◌, ◌∷◌, ◌≡◌}
 use Rattle.block9.specs.declared.line_rules.LineRules.{LineRules}
 use Rattle.block9.specs.declared.line_rules.ReplyLimit.{ReplyLimit}
 use Rattle.block9.specs.declared.line_rules.ReplyLimit.TheVariants.{Counts, LeftAside}
-use Rattle.block9.specs.Exchange.{Does, Outcome, TellsLate, tail_after}
+use Rattle.block9.specs.Exchange.{Does, TellsLate, tail_after}
 use Rattle.block9.specs.Exchange.Outcome.{answers_late, asks, completes, leaves_open}
 use Rattle.judge9.specs.Parts.{Event}
 use Rattle.judge9.specs.Parts.Event.{exchange, late_reply}
+use Rattle.judge9.specs.Working.{[], Bool, Exchange, false, LineByte, List, Outcome, ℕ}
 
 -- the exchanges after what a record does
 abbrev pub exchanges_after : List Exchange → Outcome → List Exchange

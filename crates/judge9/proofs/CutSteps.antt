@@ -24,13 +24,11 @@ cut-step rules p es t r (Outcome.completes e) h done = cut-exchange rules p es t
 cut-step rules p es t r s h done = cut-tail rules p es t r h (still_tail rules t r s done)
 
 -- what a record makes of a tail where the rules of pairing are kept: a longer tail, or an exchange
-abbrev pub Grows : LineRules → List LineByte → LineByte → Type 0
-Grows rules t r = IsTail rules (t ++ r ∷ []) ⊎ ((e : Exchange) × IsExchange rules (t ++ r ∷ []) e)
-
-pub kept_grows : (rules : LineRules) (t : List LineByte) (r : LineByte) → IsTail rules t → IsKept rules (t ++ r ∷ []) → Grows rules t r
+pub kept_grows : (rules : LineRules) (t : List LineByte) (r : LineByte) → IsTail rules t → IsKept rules (t ++ r ∷ [])
+    → IsTail rules (t ++ r ∷ []) ⊎ ((e : Exchange) × IsExchange rules (t ++ r ∷ []) e)
 kept_grows rules t r tail h = by h.exchanges h.tail h.cut
   where
-    by : (es : List Exchange) (u : List LineByte) → Cut rules (t ++ r ∷ []) es u → Grows rules t r
+    by : (es : List Exchange) (u : List LineByte) → Cut rules (t ++ r ∷ []) es u → IsTail rules (t ++ r ∷ []) ⊎ ((e : Exchange) × IsExchange rules (t ++ r ∷ []) e)
     by [] u k = inl (subst (λ (l : List LineByte). IsTail rules l) (sym k.0) k.1)
     by (e ∷ es) u (front, [], split, is, more) = inr (e, subst (λ (l : List LineByte). IsExchange rules l e) (sym (split ∙ append-nil front)) is)
     by (e ∷ es) u (front, a ∷ rest, split, is, more) =

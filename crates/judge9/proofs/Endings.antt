@@ -1,15 +1,9 @@
 -- A judging that has ended: its verdict or its totals, and with them the last line.
-use Rattle.judge9.proofs.Words.{[], ap, append-nil, Appends, Appends-trans, AppendsPart, AreCounted, AreParts, AreTotals, arith, begins_next_part, Break, BrokenPart, ComesToEnd, Ending, Err, events_of, exchanges_of, Extent}
-use Rattle.judge9.proofs.Words.{History, inl, inr, IsEnding, IsEndingOf, IsToTheEnd, JudgeError, judged_from, last_line, late_replies, length, length-append, length_push, line_rules, LineByte, List, None, Ok, Option}
-use Rattle.judge9.proofs.Words.{part_after, Profile, Reason, records_in, refl, Rest, rest_after, Result, Rows, rows_allowed, Scope, Some, StandsAt, Stops, subst, sym, terms_for, Terms, Told, told_in, Turn, Verdict, View, Written, ℕ, ◌++◌, ◌+◌, ◌-◌, ◌∙◌, ◌∷◌, ◌≡◌, ◌≢◌, ◌≤◌}
-use Rattle.report9.specs.Lines.{line_of}
-use Rattle.report9.specs.declared.totals.Totals.{Totals}
-use Rattle.judge9.specs.Standing.{totals_of}
-use Rattle.judge9.specs.Working.Reporting.{AllTold, ending_of, Judged}
-use Rattle.judge9.specs.Standing.{verdict_at}
-use Rattle.judge9.specs.declared.judging.Judging.{Judging}
-use Rattle.judge9.specs.declared.kept.Kept.{Kept}
-use Rattle.judge9.specs.declared.stage.Stage.TheVariants.{the_data as Stage}
+use Rattle.judge9.proofs.Words.{[], AllTold, ap, append-nil, Appends, Appends-trans, AppendsPart, AreCounted, AreParts, AreTotals, arith, begins_next_part, Break, BrokenPart, ComesToEnd, Ending}
+use Rattle.judge9.proofs.Words.{ending_of, Err, events_of, exchanges_of, Extent, History, inl, inr, IsEnding, IsEndingOf, IsToTheEnd, Judged, judged_from, JudgeError, Judging, Kept, last_line}
+use Rattle.judge9.proofs.Words.{late_replies, length, length-append, length_push, line_of, line_rules, LineByte, List, None, Ok, Option, part_after, Profile, Reason, records_in, refl, Rest}
+use Rattle.judge9.proofs.Words.{rest_after, Result, Rows, rows_allowed, Scope, Some, Stage, StandsAt, Stops, subst, sym, Terms, terms_for, Told, told_in, Totals, totals_of, Turn, Verdict}
+use Rattle.judge9.proofs.Words.{verdict_at, View, Written, ℕ, ◌++◌, ◌+◌, ◌-◌, ◌∙◌, ◌∷◌, ◌≡◌, ◌≢◌, ◌≤◌}
 use Rattle.judge9.proofs.EventSteps.{late_joined}
 use Rattle.judge9.proofs.LineSteps.{cut_len, records_joined}
 use Rattle.judge9.proofs.PartSteps.{either, from_size, judged_size, rest_after_low}
@@ -87,18 +81,15 @@ module _ {R : Type 0} (scope : Scope) {profile : Profile} {rows : Option Rows} {
         );
       }
 
-  ending_at : (x : Extent) → (x ≡ Extent.FirstBreak → h.broken ≡ []) → j.stage ≡ Stage.Ended → IsEnding at_end.all h ends.is_history.left (ending_of x j)
-  ending_at x none at = by x none
-    where
-      to_the_end : IsToTheEnd at_end.all h ends.is_history.left None
-      to_the_end = record { all = at_end.whole ends.ends.none_left; all_judged = ends.all_judged; none_besides = ends.none_besides }
+  to_the_end : IsToTheEnd at_end.all h ends.is_history.left None
+  to_the_end = record { all = at_end.whole ends.ends.none_left; all_judged = ends.all_judged; none_besides = ends.none_besides }
 
-      by : (x : Extent) → (x ≡ Extent.FirstBreak → h.broken ≡ []) → IsEnding at_end.all h ends.is_history.left (ending_of x j)
-      by Extent.WholeCapture none = (to_the_end, are_totals)
-      by Extent.FirstBreak none =
-          let t : AreTotals (length h.items) [] h.part (totals_of j) = rw (none refl) at are_totals in
-          subst (λ (stage : Stage). IsEnding at_end.all h ends.is_history.left (Ending.judged (verdict_at (totals_of j) stage))) (sym at)
-          (to_the_end, none refl, omega (arith, t.passed_over, given, size), t.exchanges, t.tail)
+  ending_at : (x : Extent) → (x ≡ Extent.FirstBreak → h.broken ≡ []) → j.stage ≡ Stage.Ended → IsEnding at_end.all h ends.is_history.left (ending_of x j)
+  ending_at Extent.WholeCapture none at = (to_the_end, are_totals)
+  ending_at Extent.FirstBreak none at =
+      let t : AreTotals (length h.items) [] h.part (totals_of j) = rw (none refl) at are_totals in
+      subst (λ (stage : Stage). IsEnding at_end.all h ends.is_history.left (Ending.judged (verdict_at (totals_of j) stage))) (sym at)
+      (to_the_end, none refl, omega (arith, t.passed_over, given, size), t.exchanges, t.tail)
 
 -- ---- a judging that has told all
 

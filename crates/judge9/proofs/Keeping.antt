@@ -1,12 +1,8 @@
 -- What is kept of a part, with one event more.
-use Rattle.judge9.proofs.Words.{[], Advances, ap, arith, BeginsLate, Break, BreaksAtLast, Exchange, Feed, History, inl, inr, IsEnd, KeepsTold, last_time, length, length_push, LineByte, List, Option, Part, Profile, Reason, refl, Rows}
-use Rattle.judge9.proofs.Words.{SaysLate, SaysWhy, Scope, ShowsBreak, Some, sym, TellsBreak, TellsLateReply, Tells, Terms, terms_for, Turn, WhyNo, ℕ, ◌++◌, ◌∙◌, ◌∷◌, ◌≡◌, ◌⊎◌}
-use Rattle.std.specs.Global.{Global}
-use Rattle.std.specs.Prelude.{Vec}
+use Rattle.judge9.proofs.Words.{[], Advances, ap, arith, BeginsLate, Break, BreaksAtLast, EndedAt, Exchange, Feed, Global, History, inl, inr, IsEnd, Judging, KeepsPart, KeepsTold, Kept, last_time}
+use Rattle.judge9.proofs.Words.{length, length_push, LineByte, List, Option, Part, Profile, Reason, refl, Rows, SaysLate, SaysWhy, Scope, Some, sym, Tells, TellsBreak, TellsLateReply, TellsWhy}
+use Rattle.judge9.proofs.Words.{Terms, terms_for, Turn, Vec, WhyNo, ℕ, ◌++◌, ◌∙◌, ◌∷◌, ◌≡◌, ◌⊎◌}
 use Rattle.judge9.proofs.Texts.{why_text}
-use Rattle.judge9.specs.Keeping.{EndedAt, KeepsPart, TellsWhy}
-use Rattle.judge9.specs.declared.judging.Judging.{Judging}
-use Rattle.judge9.specs.declared.kept.Kept.{Kept}
 
 -- the time at which exchanges ended, where one was told last
 ends-more : (records : List LineByte) (es : List Exchange) (e : Exchange) (us : Option ℕ) → us ≡ Some (last_time records) → IsEnd records (es ++ e ∷ []) us
@@ -20,11 +16,13 @@ ended_more part es e us exchanges is = record {
 }
 
 ended_on : (p q : Part) (us : Option ℕ) → EndedAt p us → q.exchanges ≡ p.exchanges → (q.tail ≡ [] → (q.exchanges ≡ []) ⊎ ((q.records ≡ p.records) × (p.tail ≡ []))) → EndedAt q us
-ended_on p q us h exchanges still = record { none = λ nil. h.none (sym exchanges ∙ nil); last = λ nil. by (still nil) }
-  where
-    by : (q.exchanges ≡ []) ⊎ ((q.records ≡ p.records) × (p.tail ≡ [])) → IsEnd q.records q.exchanges us
-    by (inl none) = rw none (h.none (sym exchanges ∙ none))
-    by (inr (records, tail)) = rw (records, exchanges) (h.last tail)
+ended_on p q us h exchanges still = record {
+  none = λ nil. h.none (sym exchanges ∙ nil);
+  last = λ nil. elim (still nil) [
+    | inl none ↦ rw none (h.none (sym exchanges ∙ none))
+    | inr (records, tail) ↦ rw (records, exchanges) (h.last tail)
+  ];
+}
 
 module _ {R : Type 0} {scope : Scope} {profile : Profile} {rows : Option Rows} {h : History} {kept : Kept} {k : Judging R} {event : Turn} (keeps : KeepsPart h kept) (a : Advances scope profile rows h event k) where
   -- of the records that were read for it, too
@@ -60,36 +58,28 @@ module _ {R : Type 0} {scope : Scope} {profile : Profile} {rows : Option Rows} {
   -- where no run remains with its last exchange
   pub breaks_last : (b : Break) → event ≡ Turn.Break b → b.reason ≡ Reason.NoRun
       → (e : Exchange) × (k.feed.follower.pairer.exchange ≡ Some e) × BreaksAtLast profile (kept.exchanges.items ++ e ∷ [])
-  breaks_last b is no_run = by t.shows
-    where
-      t : TellsBreak (terms_for scope.extent profile) a.front a.next b k.feed
-      t = rw is at a.tells
-
-      by : ShowsBreak (terms_for scope.extent profile) t.part k.feed.follower.pairer → (e : Exchange) × (k.feed.follower.pairer.exchange ≡ Some e) × BreaksAtLast profile (kept.exchanges.items ++ e ∷ [])
-      by (inl other) = absurd (other.0 (t.reason ∙ no_run))
-      by (inr (same, e, ends, whole, last)) = (e, ends, rw (had.exchanges ∙ sym t.exchanges) last)
+  breaks_last b is no_run =
+      let t : TellsBreak (terms_for scope.extent profile) a.front a.next b k.feed = rw is at a.tells in elim t.shows [
+        | inl other ↦ absurd (other.0 (t.reason ∙ no_run))
+        | inr (same, e, ends, whole, last) ↦ (e, ends, rw (had.exchanges ∙ sym t.exchanges) last)
+      ]
 
 -- ---- why a record breaks a rule
 
 module _ {R : Type 0} (terms : Terms) (front next : History) (j : Feed R) (event : Turn) (why : WhyNo) where
-  late_said : (r : LineByte) (t : TellsLateReply terms front next r j)
-      → ((asked : List LineByte) → BeginsLate j.follower.pairer.rules asked r → (j.follower.pairer.tail ≡ asked) ⊎ (j.follower.pairer.tail ≡ asked ++ r ∷ [])
-      → SaysLate j.follower.pairer.rules j.rows.given asked r why) → TellsWhy terms (Turn.LateReply r) next j (Some why)
-  late_said r t says = (why, refl, t.asked, t.late, rw t.rules at (says t.asked (rw t.rules t.late) t.open_records))
-
   -- why a reply is late
   pub late_why : (r : LineByte) → event ≡ Turn.LateReply r → Tells terms front event next j
       → ((asked : List LineByte) → BeginsLate j.follower.pairer.rules asked r → (j.follower.pairer.tail ≡ asked) ⊎ (j.follower.pairer.tail ≡ asked ++ r ∷ [])
       → SaysLate j.follower.pairer.rules j.rows.given asked r why) → TellsWhy terms event next j (Some why)
-  late_why r is tells says = rw is (late_said r (rw is at tells) says)
-
-  break_said : (b : Break) (es : List Exchange) (us : Option ℕ) (t : TellsBreak terms front next b j)
-      → ((t : TellsBreak terms front next b j) → (es ≡ t.part.part.exchanges) × (t.part.part.tail ≡ [] → IsEnd t.part.part.records es us))
-      → SaysWhy terms.profile j.rows.given b j.follower.pairer es us why → TellsWhy terms (Turn.Break b) next j (Some why)
-  break_said b es us t facts says = (why, refl, front.broken, t.part, t.broken, why_text es us t (facts t) why says t.shows)
+  late_why r is tells says = rw is (by (rw is at tells))
+    where
+      by : TellsLateReply terms front next r j → TellsWhy terms (Turn.LateReply r) next j (Some why)
+      by t = (why, refl, t.asked, t.late, rw t.rules at (says t.asked (rw t.rules t.late) t.open_records))
 
   -- why a part breaks
   pub break_why : (b : Break) (es : List Exchange) (us : Option ℕ) → event ≡ Turn.Break b → Tells terms front event next j
       → ((t : TellsBreak terms front next b j) → (es ≡ t.part.part.exchanges) × (t.part.part.tail ≡ [] → IsEnd t.part.part.records es us))
       → SaysWhy terms.profile j.rows.given b j.follower.pairer es us why → TellsWhy terms event next j (Some why)
-  break_why b es us is tells facts says = rw is (break_said b es us (rw is at tells) facts says)
+  break_why b es us is tells facts says =
+      let t : TellsBreak terms front next b j = rw is at tells in
+      rw is (why, refl, front.broken, t.part, t.broken, why_text es us t (facts t) why says t.shows)

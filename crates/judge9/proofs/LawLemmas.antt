@@ -1,12 +1,12 @@
 -- The laws on lists of records that keep the rules, on answers, on judging with hands, and on reasons.
-use Rattle.judge9.proofs.Words.{Terms, LineRules, line_rules, counting, [], Answer, ap, append-nil, AreCounts, append_assoc, Applies, arith, Breaks, cases_lt, Cut, cut_once, cut_parted, drop, Exchange, exchange_kept}
-use Rattle.judge9.proofs.Words.{first_before_last, first_holds, first_once, Profile, HasRun, Holds, inl, inr, IsAnswer, IsExchange, IsFirst, IsFirstBreak, IsKept, IsOk, IsPart, IsReason, Part}
-use Rattle.judge9.proofs.Words.{IsTail, kept_by_tail, kept_less, last_is_first, last_time, last_time-append, length, length-append, length_push, LineByte, List, None, Option}
-use Rattle.judge9.proofs.Words.{order, pairing, quiet_kept, rank, rank_low, rank_once, Reason, refl, Rows, same_parts, Some, subst, sym, take, take-append-drop, take-append-le}
-use Rattle.judge9.proofs.Words.{take-append_seam, Verdict, ℕ, ◌++◌, ◌<◌, ◌∙◌, ◌∷◌, ◌≡◌, ◌≢◌, ◌≤◌}
+use Rattle.judge9.proofs.Words.{[], Answer, ap, append-nil, append_assoc, Applies, arith, Breaks, cases_lt, counting, Cut, cut_once, cut_parted, drop, Exchange, exchange_kept, first_before_last}
+use Rattle.judge9.proofs.Words.{first_holds, first_once, HasRun, Holds, inl, inr, IsAnswer, IsExchange, IsFirst, IsFirstBreak, IsKept, IsOk, IsPart, IsReason, IsTail, kept_by_tail, kept_less}
+use Rattle.judge9.proofs.Words.{last_is_first, last_time, last_time-append, length, length-append, length_push, line_rules, LineByte, LineRules, List, None, Option, order, pairing, Part, Profile}
+use Rattle.judge9.proofs.Words.{quiet_kept, rank, Reason, refl, Rows, same_parts, Some, subst, sym, take, take-append-drop, take-append-le, take-append_seam, Terms, Verdict, ℕ, ◌++◌, ◌<◌, ◌∙◌, ◌∷◌}
+use Rattle.judge9.proofs.Words.{◌≡◌, ◌≢◌, ◌≤◌}
 use Rattle.block9.proofs.ReasonLemmas as block
 use Rattle.judge9.proofs.RunSteps.{run_less}
-use Rattle.judge9.proofs.CutSteps.{cut-exchange, cut-tail, kept_grows}
+use Rattle.judge9.proofs.CutSteps.{cut-exchange, cut-tail, kept_grows, tail_last}
 
 -- the tail of a cut is a tail
 pub cut_tail : (rules : LineRules) (p : List LineByte) (es : List Exchange) (t : List LineByte) → Cut rules p es t → IsTail rules t
@@ -70,17 +70,13 @@ break_once terms past items m n x y b c =
     let next : b.next ≡ c.next = let e = parts.1 in cc in
     (omega (arith, b.number, c.number, ap length parts.0), breaks_once terms c.before c.next x y (rw (parts.0, next) at b.breaks) c.breaks)
 
--- records that are counted keep the rules
-counts_ok : {terms : Terms} {items : List LineByte} {records exchanges tail : ℕ} → AreCounts terms items records exchanges tail → IsOk terms items
-counts_ok c = record { exchanges = c.cut_exchanges; tail = c.cut_tail; cut = c.cut; run = c.run }
-
 -- one answer at most is right for a text
 pub answer_once : (profile : Profile) (past : ℕ) (rows : Rows) (a b : Answer) → IsAnswer profile past rows a → IsAnswer profile past rows b → a ≡ b
 answer_once profile past rows (Answer.judged (Verdict.No at x)) (Answer.judged (Verdict.No n y)) i j = let same = break_once (counting profile) past rows.records at n x y i j in
     cc (same.0, same.1)
-answer_once profile past rows (Answer.judged (Verdict.No at x)) (Answer.judged (Verdict.Yes s f u)) i j = absurd (no_break (counting profile) past rows.records at x (counts_ok j.1) i)
+answer_once profile past rows (Answer.judged (Verdict.No at x)) (Answer.judged (Verdict.Yes s f u)) i j = absurd (no_break (counting profile) past rows.records at x (search (j.1.cut, j.1.run)) i)
 answer_once profile past rows (Answer.judged (Verdict.No at x)) (Answer.unreadable e) i j = absurd (no_break (counting profile) past rows.records at x j.1 i)
-answer_once profile past rows (Answer.judged (Verdict.Yes r e t)) (Answer.judged (Verdict.No at x)) i j = absurd (no_break (counting profile) past rows.records at x (counts_ok i.1) j)
+answer_once profile past rows (Answer.judged (Verdict.Yes r e t)) (Answer.judged (Verdict.No at x)) i j = absurd (no_break (counting profile) past rows.records at x (search (i.1.cut, i.1.run)) j)
 answer_once profile past rows (Answer.unreadable e) (Answer.judged (Verdict.No at x)) i j = absurd (no_break (counting profile) past rows.records at x i.1 j)
 answer_once profile past rows (Answer.judged (Verdict.Yes r e t)) (Answer.judged (Verdict.Yes s f u)) i j =
     let same = cut_once (line_rules (counting profile)) rows.records i.1.cut_exchanges j.1.cut_exchanges i.1.cut_tail j.1.cut_tail i.1.cut j.1.cut in
@@ -97,18 +93,8 @@ module _ (p q : Profile)
     (has : (es : List Exchange) → HasRun p es → HasRun q es) where
   pub yes_with_more : (past : ℕ) (rows : Rows) (records exchanges tail : ℕ) → IsAnswer p past rows (Answer.judged (Verdict.Yes records exchanges tail))
       → IsAnswer q past rows (Answer.judged (Verdict.Yes records exchanges tail))
-  yes_with_more past rows records exchanges tail (whole, c) = (
-    whole,
-    record {
-      cut_exchanges = c.cut_exchanges;
-      cut_tail = c.cut_tail;
-      cut = cut rows.records c.cut_exchanges c.cut_tail c.cut;
-      run = has c.cut_exchanges c.run;
-      number = c.number;
-      exchange_number = c.exchange_number;
-      tail_number = c.tail_number;
-    },
-  )
+  yes_with_more past rows records exchanges tail (whole, c) =
+      search (cut rows.records c.cut_exchanges c.cut_tail c.cut, has c.cut_exchanges c.run)
 
   pub no_with_more : (past : ℕ) (rows : Rows) (at other : ℕ) (reason another : Reason) → IsAnswer p past rows (Answer.judged (Verdict.No at reason))
       → IsAnswer q past rows (Answer.judged (Verdict.No other another)) → at ≤ other
@@ -121,7 +107,6 @@ module _ (p q : Profile)
 -- ---- which reason a record gets: that of pairing where a rule of pairing is broken, and else that no run remains
 
 -- the reasons before the last one are those of pairing
-
 same_before_last : (terms : Terms) (es : List Exchange) (t : List LineByte) (r : LineByte) (y : Reason) → rank y < 12
     → (Holds (line_rules terms) y t r → Applies terms es t r y) × (Applies terms es t r y → Holds (line_rules terms) y t r)
 same_before_last terms es t r Reason.NoRun low = absurd (omega arith)
@@ -132,7 +117,7 @@ pub pairing_reason : {rules : LineRules} {t : List LineByte} {r : LineByte} {x :
 pairing_reason {rules = rules} {t = t} {r = r} {x = x} is same = subst (λ y. Holds rules y t r) same (first_holds (λ y. Holds rules y t r) order x is)
 
 not_last : (y : Reason) → y ≢ Reason.NoRun → rank y < 12
-not_last y other = elim (cases_lt (rank y) 12) [ inl low ↦ low | inr high ↦ absurd (other (rank_once y Reason.NoRun (omega (arith, rank_low y)))) ]
+not_last y other = grind arith
 
 -- a reason of pairing is the reason
 pub pairing_first : (terms : Terms) (es : List Exchange) (t : List LineByte) (r : LineByte) (x : Reason) → IsReason (line_rules terms) t r x → IsFirst (Applies terms es t r) order x
@@ -168,21 +153,19 @@ tail_breaks terms p es t r x cut run broken is =
 
 -- ---- some reason always applies
 
--- the tail's last record is not after that of the whole
+-- the last record of what ends a list is not after that of the list
 last_time_rest : (rules : LineRules) (front rest : List LineByte) → last_time rest ≤ last_time (front ++ rest)
 last_time_rest rules front [] = omega arith
 last_time_rest rules front (a ∷ rest) = omega (arith, last_time-append rules front (a ∷ rest) (omega arith))
-
-pub last_time-cut : (rules : LineRules) (p : List LineByte) (es : List Exchange) (t : List LineByte) → Cut rules p es t → last_time t ≤ last_time p
-last_time-cut rules p [] t h = omega (arith, ap last_time h.0)
-last_time-cut rules p (e ∷ es) t h = omega (arith, last_time-cut rules h.1 es t h.4, last_time_rest rules h.0 h.1, ap last_time h.2)
 
 -- where the records keep the rules and with one more do not, there is a reason
 pub some_reason : (terms : Terms) (p : List LineByte) (r : LineByte) → IsOk terms p → last_time p ≤ r.time_us → ¬ IsOk terms (p ++ r ∷ []) → (x : Reason) × Breaks terms p r x
 some_reason terms p r ok later broken = by (pairing (line_rules terms) ok.tail r) refl
   where
     tail_later : last_time ok.tail ≤ r.time_us
-    tail_later = omega (arith, last_time-cut (line_rules terms) p ok.exchanges ok.tail ok.cut)
+    tail_later =
+        let ends = tail_last (line_rules terms) p ok.exchanges ok.tail ok.cut in
+        omega (arith, ap last_time ends.1, last_time_rest (line_rules terms) ends.0 ok.tail)
 
     reason : (x : Reason) → IsFirst (Applies terms ok.exchanges ok.tail r) order x → (x : Reason) × Breaks terms p r x
     reason x is = (x, record { exchanges = ok.exchanges; tail = ok.tail; cut = ok.cut; run = ok.run; not_ok = broken; is_reason = is })
@@ -192,12 +175,7 @@ some_reason terms p r ok later broken = by (pairing (line_rules terms) ok.tail r
 
     by : (o : Option Reason) → pairing (line_rules terms) ok.tail r ≡ o → (x : Reason) × Breaks terms p r x
     by None quiet = elim (kept_grows (line_rules terms) ok.tail r tail (quiet_kept (line_rules terms) ok.tail r tail tail_later quiet)) [
-      | inl longer ↦ absurd (broken (record {
-        exchanges = ok.exchanges;
-        tail = ok.tail ++ r ∷ [];
-        cut = cut-tail (line_rules terms) p ok.exchanges ok.tail r ok.cut longer;
-        run = ok.run;
-      }))
+      | inl longer ↦ absurd (broken (search (cut-tail (line_rules terms) p ok.exchanges ok.tail r ok.cut longer, ok.run)))
       | inr whole ↦
           let cut = cut-exchange (line_rules terms) p ok.exchanges ok.tail r whole.0 ok.cut whole.1 in
           reason Reason.NoRun (no_run_first terms ok.exchanges ok.tail r whole.0 quiet whole.1

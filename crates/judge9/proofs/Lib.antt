@@ -1,13 +1,10 @@
 pub mod ByOutcome
 pub mod Coming
-pub mod CountingSteps
 pub mod CutSteps
 pub mod Endings
 pub mod EventSteps
 pub mod FirstBreak
 pub mod FirstText
-pub mod GoingOn
-pub mod HistorySteps
 pub mod InTime
 pub mod Keeping
 pub mod LawLemmas

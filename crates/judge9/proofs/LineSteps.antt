@@ -1,19 +1,14 @@
 -- How many records exchanges have, and what is written after other bytes.
-use Rattle.judge9.proofs.Words.{LineRules, records_in, [], ap, append-nil, Appends, Appends-trans, arith, Cut, Exchange, IsExchange, length, length-append, length-map, LineByte, List}
-use Rattle.judge9.proofs.Words.{Option, records_of, subst, ℕ, ◌++◌, ◌+◌, ◌*◌, ◌∷◌, ◌≡◌, ◌≤◌, length_push}
+use Rattle.judge9.proofs.Words.{[], ap, append-nil, Appends, Appends-trans, arith, Cut, Exchange, IsExchange, length, length-append, length-map, length_push, LineByte, LineRules, List, Option}
+use Rattle.judge9.proofs.Words.{records_in, records_of, subst, ℕ, ◌*◌, ◌++◌, ◌+◌, ◌∷◌, ◌≡◌, ◌≤◌}
 
 -- ---- how many records exchanges have
 
 pub exchange_len : (rules : LineRules) (front : List LineByte) (e : Exchange) → IsExchange rules front e → length front ≡ records_of e
 exchange_len rules front e h =
-    omega (
-      arith,
-      ap length h.split,
-      length-append h.asked h.answered,
-      simp length-map at (ap length h.command.whole.spelled.spelled),
-      simp length-map at
-          (ap length h.reply.spelled.spelled),
-    )
+    let asked = simp length-map at (ap length h.command.whole.spelled.spelled) in
+    let answered = simp length-map at (ap length h.reply.spelled.spelled) in
+    omega (arith, ap length h.split, length-append h.asked h.answered, asked, answered)
 
 pub cut_len : (rules : LineRules) (p : List LineByte) (es : List Exchange) (t : List LineByte) → Cut rules p es t → length p ≡ records_in es + length t
 cut_len rules p [] t h = omega (arith, ap length h.0)

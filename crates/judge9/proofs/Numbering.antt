@@ -1,31 +1,23 @@
 -- The parts of a capture where more records come before them: the same with other numbers.
-use Rattle.judge9.proofs.Words.{[], ap, AreEvents, AreEventsAt, AreParts, AreTotals, arith, begins_next_part, BrokenPart, Event, events_of, exchanges_of, IsEvent, Terms}
-use Rattle.judge9.proofs.Words.{from_command, in_parts, IsPart, late_replies, length, length-map, LineByte, List, may_begin, Option}
-use Rattle.judge9.proofs.Words.{Part, Profile, Reason, refl, Rest, rest_after, Some, subst, sym, ℕ, ◌++◌, ◌+◌, ◌∙◌, ◌∷◌, ◌≡◌}
-use Rattle.std.specs.Prelude.{map}
-use Rattle.report9.specs.declared.totals.Totals.{Totals}
+use Rattle.judge9.proofs.Words.{[], ap, AreEvents, AreEventsAt, AreParts, AreTotals, arith, BrokenPart, Event, events_of, exchange, exchanges_of, from_command}
+use Rattle.judge9.proofs.Words.{in_parts, IsEvent, IsPart, late_replies, late_reply, length, length-map, LineByte, List, map, Option, Part, Profile, Reason, refl, Rest}
+use Rattle.judge9.proofs.Words.{rest_after, Some, Terms, Totals, ℕ, ◌++◌, ◌+◌, ◌∙◌, ◌∷◌, ◌≡◌}
 use Rattle.judge9.specs.Renumbered.{renumbered_break, renumbered_event, renumbered_part, renumbered_rest, renumbered_totals}
-use Rattle.judge9.specs.Parts.Event.{exchange, late_reply}
-use Rattle.judge9.proofs.PartSteps.{both}
+use Rattle.judge9.proofs.EventSteps.{late_joined}
 use Rattle.std.proofs.lemmas.List.{map-append}
 
 module _ (n : ℕ) where
   -- what is told of records
-  event_renumbered : (terms : Terms) (past : ℕ) (before : List LineByte) (r : LineByte) (event : Event) → IsEvent terms past before r event
-      → IsEvent terms (n + past) before r (renumbered_event n event)
-  event_renumbered terms past before r (late_reply at asked first) (number, one, aside, late, has_cut) = (omega (arith, number), one, aside, late, has_cut)
-  event_renumbered terms past before r (exchange at es e) (number, cut, run) = (omega (arith, number), cut, run)
-
-  none_renumbered : (terms : Terms) (past : ℕ) (before : List LineByte) (r : LineByte) → ((event : Event) → ¬ IsEvent terms past before r event) → (event : Event)
-      → IsEvent terms (n + past) before r event → ⊥
-  none_renumbered terms past before r none (late_reply at asked first) (number, one, aside, late, has_cut) =
-      none (late_reply (past + length before + 1) asked first) (refl, one, aside, late, has_cut)
-  none_renumbered terms past before r none (exchange at es e) (number, cut, run) = none (exchange (past + length before + 1) es e) (refl, cut, run)
-
   at_renumbered : (terms : Terms) (past : ℕ) (before : List LineByte) (r : LineByte) (events : List Event) → AreEventsAt terms past before r events
       → AreEventsAt terms (n + past) before r (map (renumbered_event n) events)
-  at_renumbered terms past before r [] none = none_renumbered terms past before r none
-  at_renumbered terms past before r (event ∷ events) (is, nil) = (event_renumbered terms past before r event is, ap (map (renumbered_event n)) nil)
+  at_renumbered terms past before r (late_reply at asked first ∷ events) ((number, one, aside, late, has_cut), nil) =
+      ((omega (arith, number), one, aside, late, has_cut), ap (map (renumbered_event n)) nil)
+  at_renumbered terms past before r (exchange at es e ∷ events) ((number, cut, run), nil) = ((omega (arith, number), cut, run), ap (map (renumbered_event n)) nil)
+  at_renumbered terms past before r [] none = by
+    where
+      by : (event : Event) → IsEvent terms (n + past) before r event → ⊥
+      by (late_reply at asked first) (number, one, aside, late, has_cut) = none (late_reply (past + length before + 1) asked first) (refl, one, aside, late, has_cut)
+      by (exchange at es e) (number, cut, run) = none (exchange (past + length before + 1) es e) (refl, cut, run)
 
   events_renumbered : (terms : Terms) (past : ℕ) (before records : List LineByte) (events : List Event) → AreEvents terms past before records events
       → AreEvents terms (n + past) before records (map (renumbered_event n) events)
@@ -50,14 +42,10 @@ module _ (n : ℕ) where
   -- where the next one begins
   from_renumbered : (past : ℕ) (last : Option LineByte) (records : List LineByte) → from_command (n + past) last records ≡ renumbered_rest n (from_command past last records)
   from_renumbered past last [] = refl
-  from_renumbered past last (r ∷ records) =
-      let next : n + (past + 1) ≡ n + past + 1 = omega arith in
-      both (λ (moved rest : Rest). moved ≡ renumbered_rest n rest) (may_begin last r) _ _ _ _ refl (rw next at (from_renumbered (past + 1) (Some r) records))
+  from_renumbered past last (r ∷ records) = let later = from_renumbered (past + 1) (Some r) records in grind arith
 
   rest_renumbered : (past : ℕ) (reason : Reason) (breaking : LineByte) (after : List LineByte) → rest_after (n + past) reason breaking after ≡ renumbered_rest n (rest_after past reason breaking after)
-  rest_renumbered past reason breaking after =
-      let next : n + (past + 1) ≡ n + past + 1 = omega arith in
-      both (λ (moved rest : Rest). moved ≡ renumbered_rest n rest) (begins_next_part reason breaking) _ _ _ _ refl (rw next at (from_renumbered (past + 1) (Some breaking) after))
+  rest_renumbered past reason breaking after = let later = from_renumbered (past + 1) (Some breaking) after in grind arith
 
   -- all parts
   pub parts_renumbered : (profile : Profile) (rest left : Rest) (broken : List BrokenPart) → AreParts (in_parts profile) rest broken left
@@ -71,8 +59,7 @@ module _ (n : ℕ) where
         part_renumbered profile b.part part,
         breaks,
         events_renumbered (in_parts profile) b.part.past [] (b.part.records ++ b.breaking ∷ []) b.events told,
-        subst (λ m. AreParts (in_parts profile) (rest_after m b.reason b.breaking after) (map (renumbered_break n) broken) (renumbered_rest n left)) past
-            (rw (rest_renumbered size b.reason b.breaking after) (parts_renumbered profile (rest_after size b.reason b.breaking after) left broken others)),
+        rw (← past, rest_renumbered size b.reason b.breaking after) (parts_renumbered profile (rest_after size b.reason b.breaking after) left broken others),
       )
 
   -- and what is counted of them
@@ -80,18 +67,23 @@ module _ (n : ℕ) where
   exchanges_renumbered [] = refl
   exchanges_renumbered (b ∷ broken) = ap (λ l. b.part.exchanges ++ l) (exchanges_renumbered broken)
 
-  told_of_renumbered : (broken : List BrokenPart) → events_of (map (renumbered_break n) broken) ≡ map (renumbered_event n) (events_of broken)
-  told_of_renumbered [] = refl
-  told_of_renumbered (b ∷ broken) = rw (told_of_renumbered broken) (sym (map-append (renumbered_event n) b.events (events_of broken)))
-
-  late_of : (broken : List BrokenPart) (events : List Event)
-      → late_replies (events_of (map (renumbered_break n) broken) ++ map (renumbered_event n) events) ≡ late_replies (events_of broken ++ events)
-  late_of broken events = rw (told_of_renumbered broken, ← (map-append (renumbered_event n) (events_of broken) events)) (late_renumbered (events_of broken ++ events))
+  late_of : (broken : List BrokenPart) → late_replies (events_of (map (renumbered_break n) broken)) ≡ late_replies (events_of broken)
+  late_of [] = refl
+  late_of (b ∷ broken) =
+      omega (arith, late_joined (map (renumbered_event n) b.events) (events_of (map (renumbered_break n) broken)), late_joined b.events (events_of broken), late_renumbered b.events, late_of broken)
 
   pub totals_renumbered : (records : ℕ) (broken : List BrokenPart) (last : Part) (t : Totals) → AreTotals records broken last t
       → AreTotals (n + records) (map (renumbered_break n) broken) (renumbered_part n last) (renumbered_totals n t)
   totals_renumbered records broken last t are = record {
-    breaks = omega (arith, are.breaks, length-map broken (renumbered_break n), late_of broken last.events);
+    breaks = omega (
+      arith,
+      are.breaks,
+      length-map broken (renumbered_break n),
+      late_joined (events_of broken) last.events,
+      late_joined (events_of (map (renumbered_break n) broken)) (map (renumbered_event n) last.events),
+      late_of broken,
+      late_renumbered last.events,
+    );
     all_records = ap (λ m. n + m) are.all_records;
     exchanges = rw (exchanges_renumbered broken) are.exchanges;
     tail = are.tail;

@@ -1,6 +1,6 @@
 -- What is passed over after a break, where the next part begins, and what a judging of all parts comes to.
-use Rattle.judge9.proofs.Words.{[], append-nil, append_assoc, AreRead, arith, Beginning, begins_next_part, Bool, false, from_command, GivesAll, GivesRecord, if◌then◌else◌, inl, inr, judged_from, last_of, length, LineByte}
-use Rattle.judge9.proofs.Words.{List, may_begin, None, NoneBegins, Option, Progress, Reason, refl, Rest, rest_after, Rows, Some, subst, true, ℕ, ◌++◌, ◌+◌, ◌∙◌, ◌∷◌, ◌≡◌, ◌≤◌, ◌⊎◌}
+use Rattle.judge9.proofs.Words.{[], append-nil, append_assoc, AreRead, arith, Beginning, Bool, false, from_command, GivesAll, GivesRecord, inl, inr, judged_from, last_of, length, LineByte, List}
+use Rattle.judge9.proofs.Words.{may_begin, None, NoneBegins, Option, Progress, Reason, refl, Rest, rest_after, Rows, Some, subst, true, ℕ, if◌then◌else◌, ◌++◌, ◌+◌, ◌∷◌, ◌≡◌, ◌≤◌, ◌⊎◌}
 use Rattle.judge9.proofs.ReadSteps.{read_next}
 
 -- ---- records that were given one after another
@@ -38,16 +38,14 @@ last-more last (x ∷ records) r = last-more (Some x) records r
 pub passed_to : (n : ℕ) (last : Option LineByte) (records : List LineByte) (first : LineByte) (more : List LineByte) → NoneBegins last records
     → may_begin (last_of last records) first ≡ true
     → from_command n last (records ++ first ∷ more) ≡ record { past = n + length records; records = first ∷ more }
-passed_to n last [] first more none begins = rw begins (cc (let e : n + 0 ≡ n = omega arith in e))
-passed_to n last (r ∷ records) first more none begins = rw none.0 (passed_to (n + 1) (Some r) records first more none.1 begins ∙ cc
-    (let e : (n + 1) + length records ≡ n + length (r ∷ records) = omega arith in e))
+passed_to n last [] first more none begins = grind arith
+passed_to n last (r ∷ records) first more none begins = let later = passed_to (n + 1) (Some r) records first more none.1 begins in grind arith
 
 -- or nowhere
 pub passed_all : (n : ℕ) (last : Option LineByte) (records : List LineByte) → NoneBegins last records
     → from_command n last records ≡ record { past = n + length records; records = [] }
-passed_all n last [] none = cc (let e : n + 0 ≡ n = omega arith in e)
-passed_all n last (r ∷ records) none = rw none.0 (passed_all (n + 1) (Some r) records none.1 ∙ cc
-    (let e : (n + 1) + length records ≡ n + length (r ∷ records) = omega arith in e))
+passed_all n last [] none = grind arith
+passed_all n last (r ∷ records) none = let later = passed_all (n + 1) (Some r) records none.1 in grind arith
 
 -- what holds either way
 pub either : {A : Type 0} (P : A → Type 0) (b : Bool) (x y : A) → P x → P y → P (if b then x else y)
@@ -61,12 +59,10 @@ both P false x y u v here later = later
 -- it never begins earlier
 pub from_command_low : (past : ℕ) (last : Option LineByte) (records : List LineByte) → past ≤ (from_command past last records).past
 from_command_low past last [] = omega arith
-from_command_low past last (r ∷ records) =
-    either (λ (rest : Rest). past ≤ rest.past) (may_begin last r) _ _ (omega arith) (omega (arith, from_command_low (past + 1) (Some r) records))
+from_command_low past last (r ∷ records) = let later = from_command_low (past + 1) (Some r) records in grind arith
 
 pub rest_after_low : (n : ℕ) (reason : Reason) (breaking : LineByte) (after : List LineByte) → n ≤ (rest_after n reason breaking after).past
-rest_after_low n reason breaking after =
-    either (λ (rest : Rest). n ≤ rest.past) (begins_next_part reason breaking) _ _ (omega arith) (omega (arith, from_command_low (n + 1) (Some breaking) after))
+rest_after_low n reason breaking after = let later = from_command_low (n + 1) (Some breaking) after in grind arith
 
 -- ---- where a judging begins
 
@@ -105,8 +101,7 @@ judged_more Beginning.FirstCommand items more = command_more 0 None items more
 -- those that are judged, and those that are passed over before them
 pub from_size : (n : ℕ) (last : Option LineByte) (items : List LineByte) → (from_command n last items).past + length (from_command n last items).records ≡ n + length items
 from_size n last [] = refl
-from_size n last (x ∷ items) =
-    either (λ (rest : Rest). rest.past + length rest.records ≡ n + length (x ∷ items)) (may_begin last x) _ _ refl (omega (arith, from_size (n + 1) (Some x) items))
+from_size n last (x ∷ items) = let later = from_size (n + 1) (Some x) items in grind arith
 
 pub judged_size : (beginning : Beginning) (items : List LineByte) → (judged_from beginning items).past + length (judged_from beginning items).records ≡ length items
 judged_size Beginning.FirstRecord items = omega arith

@@ -1,18 +1,11 @@
 -- How far a report has come, with one event more.
-use Rattle.judge9.proofs.Words.{[], Advances, ap, Appends, Appends-nil, Appends-trans, arith, Break, BreaksAtLast, BrokenPart, Err, Exchange, Extent, History, inl, inr, IsEnd, IsTextOf, IsTold, IsToFirstBreak, IsToldText}
-use Rattle.judge9.proofs.Words.{JudgeError, KeepsTold, last_time, length, length_push, LineByte, List, Next, None, nothing_told, number_of, Ok, Option, Part, part_after, Profile, Reached, Reason, refl, Result, Rows, rows_allowed}
-use Rattle.judge9.proofs.Words.{Scope, ShowsBreak, Some, Stands, sym, TellsBreak, Tells, terms_for, Turn, View, ℕ, ◌++◌, ◌∙◌, ◌∷◌, ◌≡◌, ◌≢◌, ◌⊎◌}
-use Rattle.std.specs.Global.{Global}
-use Rattle.std.specs.Prelude.{Vec}
-use Rattle.judge9.specs.declared.judging.Judging.{Judging}
-use Rattle.judge9.specs.declared.kept.Kept.{Kept}
-use Rattle.judge9.specs.declared.stage.Stage.TheVariants.{the_data as Stage}
-use Rattle.judge9.specs.Working.Reporting.{Judged}
+use Rattle.judge9.proofs.Words.{[], Advances, ap, Appends, Appends-nil, Appends-trans, Break, BrokenPart, Err, Extent, History, inl, inr, IsTextOf, IsToFirstBreak, IsTold, IsToldText, Judged}
+use Rattle.judge9.proofs.Words.{JudgeError, Judging, KeepsPart, KeepsTold, Kept, List, Next, None, nothing_told, number_of, Ok, Option, part_after, Profile, Reached, refl, Result, Rows}
+use Rattle.judge9.proofs.Words.{rows_allowed, Scope, Stage, Stands, sym, Tells, terms_for, Turn, View, ℕ, ◌++◌, ◌∙◌, ◌∷◌, ◌≡◌, ◌≢◌, ◌⊎◌}
 use Rattle.judge9.proofs.Keeping.{keeps_next, kept_of}
 use Rattle.judge9.proofs.LineSteps.{none_after}
-use Rattle.judge9.specs.Keeping.{KeepsPart}
 use Rattle.judge9.proofs.Results.{judged_here, judged_refused, reached_nothing, text_of_nothing}
-use Rattle.judge9.proofs.Texts.{text_break, text_exchange, text_late, text_silent}
+use Rattle.judge9.proofs.Texts.{text_next, text_silent}
 
 -- ---- a report so far
 
@@ -22,10 +15,6 @@ IsFirst scope h j =
     scope.extent ≡ Extent.FirstBreak → (h.broken ≡ [])
     ⊎ ((b : Break) × (j.stage ≡ Stage.Broken b) × (part : BrokenPart) × (h.broken ≡ part ∷ []) × (number_of part ≡ j.feed.rows.given) × (part.reason ≡ b.reason) × IsToFirstBreak h)
 
--- what is kept of the part, where it is told why a part breaks
-abbrev pub IsKeptOf : View → History → Kept → Type 0
-IsKeptOf view h kept = view ≡ View.Why → KeepsPart h kept
-
 pub record SoFar {R : Type 0} (view : View) (scope : Scope) (profile : Profile) (rows : Option Rows) (old now : Option (List ℕ)) (kept : Kept) (j : Judging R) : Type 0 where
   pub history : History
   pub text : List ℕ
@@ -34,7 +23,8 @@ pub record SoFar {R : Type 0} (view : View) (scope : Scope) (profile : Profile) 
   pub reached : Reached (rows_allowed scope.extent) (terms_for scope.extent profile) scope.beginning rows history
   pub stands : Stands scope profile rows history j
   pub first : IsFirst scope history j
-  pub keeps : IsKeptOf view history kept
+  -- what is kept of the part, where it is told why a part breaks
+  pub keeps : view ≡ View.Why → KeepsPart history kept
 
 -- no event was told yet
 abbrev pub so_far-none : {R : Type 0} (view : View) (scope : Scope) (profile : Profile) (rows : Option Rows) (old : Option (List ℕ)) (kept : Kept) (j : Judging R) → Stands scope profile rows nothing_told j
@@ -72,15 +62,9 @@ unbroken {R} s over never is = elim (s.first is) [
 module _ {R : Type 0} {view : View} {scope : Scope} {profile : Profile} {rows : Option Rows} {old now : Option (List ℕ)} {kept : Kept} {j k : Judging R} (s : SoFar view scope profile rows old now kept j)
     {event : Turn} (a : Advances scope profile rows s.history event k) where
   -- its text
-  pub text_next : (event : Turn) (next : History) (line : List ℕ) → Tells (terms_for scope.extent profile) a.front event next k.feed
-      → IsTextOf view profile k.feed kept.exchanges.items kept.end_us event line → IsToldText view (terms_for scope.extent profile) next (s.text ++ line)
-  text_next Turn.Exchange next line t is = text_exchange view kept.exchanges.items kept.end_us line t is (text_silent a.silent s.is_text)
-  text_next (Turn.LateReply r) next line t is = text_late view kept.exchanges.items kept.end_us line t is (text_silent a.silent s.is_text)
-  text_next (Turn.Break b) next line t is = text_break kept.exchanges.items kept.end_us t view line facts is (text_silent a.silent s.is_text)
-    where
-      facts : view ≡ View.Why → (kept.exchanges.items ≡ t.part.part.exchanges) × (t.part.part.tail ≡ [] → IsEnd t.part.part.records kept.exchanges.items kept.end_us)
-      facts why = kept_of (s.keeps why) a t
-  text_next Turn.End next line t is = absurd t
+  pub text_more : (line : List ℕ) → IsTextOf view profile k.feed kept.exchanges.items kept.end_us event line → IsToldText view (terms_for scope.extent profile) a.next (s.text ++ line)
+  text_more line is =
+      text_next view kept.exchanges.items kept.end_us event line (λ b t why. kept_of (s.keeps why) a t) a.tells is (text_silent a.silent s.is_text)
 
   module _ (over : IsOver j (Ok event) k) (other : event ≢ Turn.End) (broke : (b : Break) → event ≡ Turn.Break b → k.stage ≡ Stage.Broken b) where
     none : scope.extent ≡ Extent.FirstBreak → a.front.broken ≡ []
@@ -100,7 +84,7 @@ module _ {R : Type 0} {view : View} {scope : Scope} {profile : Profile} {rows : 
     so_far-more {new = new} after told keeps = record {
       history = a.next;
       text = s.text ++ told.0;
-      is_text = text_next event a.next told.0 a.tells told.1;
+      is_text = text_more told.0 told.1;
       wrote = Appends-trans old now new s.text told.0 s.wrote told.2;
       reached = a.now_reached;
       stands = a.stands;
@@ -113,7 +97,7 @@ module _ {R : Type 0} {view : View} {scope : Scope} {profile : Profile} {rows : 
         → Judged view scope profile rows (Err x) old new
     untold v p same_view same_profile (JudgeError.Capture e) new told = absurd told.2
     untold v p same_view same_profile JudgeError.Write new (line, is, part) =
-        judged_here (first_of scope a.next k (next_first event a.next a.tells broke)) (text_next event a.next line a.tells (rw (same_view, same_profile) at is)) a.now_reached
+        judged_here (first_of scope a.next k (next_first event a.next a.tells broke)) (text_more line (rw (same_view, same_profile) at is)) a.now_reached
         JudgeError.Write tt (inl (part_after old now new s.text line s.wrote part))
     untold v p same_view same_profile JudgeError.OutOfMemory new nothing =
         judged_here (λ is. inl (none is)) (text_silent a.silent s.is_text) a.reached JudgeError.OutOfMemory tt (none_after old now new s.text s.wrote nothing)

@@ -1,9 +1,8 @@
 -- What a result says where nothing more is said of the rows, and where the capture is refused.
-use Rattle.judge9.proofs.Words.{[], Appends, Appends-nil, Beginning, Bool, CaptureError, CaptureKind, Err, Extent, false, false≢true, Feed, given-refused, HasHeader, History, IfSome, if◌then◌else◌, inl, is_of_text, IsHistory, IsPlaced, IsRefused}
-use Rattle.judge9.proofs.Words.{IsTail, IsToFirstBreak, IsToldText, IsTrue, JudgeError, List, no_rows-can_be, None, nothing_told, Option, Profile, Reached, refl, refusal_by, refused-after, Result, Rows, rows_allowed, run_start, Scope}
-use Rattle.judge9.proofs.Words.{Some, sym, Terms, terms_for, Told, true, View, WereRead, Written, ℕ, ◌∙◌, ◌≡◌, ◌≢◌}
-use Rattle.judge9.specs.Report.{Ending}
-use Rattle.judge9.specs.Working.Reporting.{IsRefusal, Judged}
+use Rattle.judge9.proofs.Words.{[], Appends, Appends-nil, Beginning, Bool, CaptureError, CaptureKind, Ending, Err, Extent, false, false≢true, Feed, given-refused, HasHeader, History, IfSome}
+use Rattle.judge9.proofs.Words.{if◌then◌else◌, inl, is_of_text, IsHistory, IsPlaced, IsRefusal, IsRefused, IsTail, IsToFirstBreak, IsToldText, IsTrue, Judged, JudgeError, List, no_rows-can_be, None}
+use Rattle.judge9.proofs.Words.{nothing_told, Option, Profile, Reached, refl, refusal_by, refused-after, Result, Rows, rows_allowed, run_start, Scope, Some, sym, Terms, terms_for, Told, true, View}
+use Rattle.judge9.proofs.Words.{WereRead, Written, ℕ, ◌∙◌, ◌≡◌, ◌≢◌}
 use Rattle.judge9.proofs.PartSteps.{from_none}
 use Rattle.judge9.proofs.ReadSteps.{given_of, Seen, seen, unread}
 

@@ -1,21 +1,11 @@
 -- A judging that keeps its exchanges, and the run that is found of them.
-use Rattle.judge9.proofs.Words.{[], Advances, ap, arith, Break, counting, Cut, Ending, Err, Exchange, Extent, inl, inr, IsEnding, IsRun, IsTold, JudgeError, length, length_push, line_rules, List, Next, None, Ok, Option}
-use Rattle.judge9.proofs.Words.{Possible, Profile, Reason, refl, Rows, RunVerdict, Scope, Some, some_end, State, Stops, subst, sym, Tells, TellsExchange, terms_for, Turn, Verdict, View, ℕ, ◌++◌, ◌+◌, ◌-◌, ◌∙◌, ◌∷◌, ◌≡◌, ◌≢◌}
-use Rattle.std.specs.Global.{Global}
-use Rattle.std.specs.Prelude.{Vec}
-use Rattle.report9.specs.declared.totals.Totals.{Totals}
-use Rattle.judge9.specs.Beginning.{Rest}
-use Rattle.judge9.specs.History.{History}
-use Rattle.judge9.specs.Standing.{totals_of}
-use Rattle.judge9.specs.Working.Reporting.{ending_of, Judged, JudgesRun, KeepsAll}
-use Rattle.judge9.specs.Standing.{verdict_at, verdict_of}
-use Rattle.judge9.specs.declared.feed.Feed.{Feed}
-use Rattle.judge9.specs.declared.judging.Judging.{Judging}
-use Rattle.judge9.specs.declared.kept.Kept.{Kept}
-use Rattle.judge9.specs.declared.stage.Stage.TheVariants.{the_data as Stage}
+use Rattle.judge9.proofs.Words.{[], Advances, ap, arith, Break, counting, Cut, Ending, ending_of, Err, Exchange, Extent, Feed, Global, History, inl, inr, IsEnding, IsRun, IsTold, JudgeError}
+use Rattle.judge9.proofs.Words.{JudgesRun, Judging, KeepsAll, Kept, length, length_push, line_rules, List, Next, None, Ok, Option, Possible, Profile, Reason, refl, Rest, Rows, RunVerdict, Scope}
+use Rattle.judge9.proofs.Words.{Some, some_end, Stage, State, Stops, subst, sym, Tells, TellsExchange, terms_for, Totals, totals_of, Turn, Vec, Verdict, verdict_at, verdict_of, View, ℕ, ◌++◌, ◌+◌}
+use Rattle.judge9.proofs.Words.{◌-◌, ◌∙◌, ◌∷◌, ◌≡◌, ◌≢◌}
 use Rattle.judge9.proofs.Endings.{all_told, line_told}
 use Rattle.judge9.proofs.PartSteps.{judged_size}
-use Rattle.judge9.proofs.Reports.{failed, IsOver, so_far-more, SoFar, untold}
+use Rattle.judge9.proofs.Reports.{failed, IsOver, so_far-more, SoFar}
 use Rattle.judge9.proofs.Results.{refusal_cases}
 use Rattle.judge9.proofs.Verdicts.{judged_part}
 
@@ -45,12 +35,9 @@ module _ {R : Type 0} {scope : Scope} {profile : Profile} {rows : Option Rows} {
   kept_end over stops = let (all, none, exchanges) = all_told s over stops in (all, λ nil. same (none nil) ∙ sym exchanges)
 
   module _ {event : Turn} (a : Advances scope profile rows s.history event k) where
-    module _ (over : IsOver j (Ok event) k) (other : event ≢ Turn.End) (broke : (b : Break) → event ≡ Turn.Break b → k.stage ≡ Stage.Broken b) where
-      abbrev pub kept_more : (after : Kept) → SoFar View.Verdict scope profile rows None None after k
-      kept_more after = so_far-more s a over other broke {new = None} after (unwritten profile k.feed kept.exchanges.items kept.end_us event) no_why
-
-      pub kept_memory : KeepsAll scope profile rows (Err JudgeError.OutOfMemory) [] k
-      kept_memory = (λ q. cc, untold s a over other broke View.Verdict profile refl refl JudgeError.OutOfMemory None tt)
+    abbrev pub kept_more : IsOver j (Ok event) k → event ≢ Turn.End → ((b : Break) → event ≡ Turn.Break b → k.stage ≡ Stage.Broken b) → (after : Kept)
+        → SoFar View.Verdict scope profile rows None None after k
+    kept_more over other broke after = so_far-more s a over other broke {new = None} after (unwritten profile k.feed kept.exchanges.items kept.end_us event) no_why
 
     -- the exchanges of the part as they were
     pub same_still : event ≢ Turn.Exchange → a.next.broken ≡ [] → kept.exchanges.items ≡ a.next.part.exchanges
@@ -71,10 +58,6 @@ module _ {R : Type 0} {scope : Scope} {profile : Profile} {rows : Option Rows} {
       more t.e t.shown ∙ ap (λ l. l ++ t.e ∷ []) (same (sym a.silent.broken ∙ sym t.broken ∙ none) ∙ sym a.silent.exchanges) ∙ sym t.exchanges
 
 -- ---- a run
-
-pub run_failed : {scope : Scope} {profile : Profile} {rows : Option Rows} (x : JudgeError) → (x ≢ JudgeError.Write) × Judged View.Verdict scope profile rows (Err x) None None
-    → JudgesRun scope profile rows (Err x)
-run_failed x (other, judged) = record { judged = judged; run = tt; no_write = λ q. other (cc) }
 
 -- so many records were passed over or judged before a yes
 yes_records : {records exchanges tail : ℕ} (t : Totals) (stage : Stage) → Verdict.Yes records exchanges tail ≡ verdict_at t stage → records ≡ t.records - t.passed_over

@@ -1,8 +1,8 @@
 -- The records so far of a part: before the first one, and with one record more that keeps the rules.
-use Rattle.judge9.proofs.Words.{[], append-nil, append_assoc, AreRead, arith, Bool, Breaks, Break, BeginsReplyLate, Comes, Completes, cut_once, Does, events_by, Exchange, exchanges_after, false, false≢true, Feed}
-use Rattle.judge9.proofs.Words.{Follower, GivesRecord, HasRun, InPart, inl, inr, IsKept, IsOk, IsOpen, IsReason, IsTail, KeepsEnds, KnowsNothing, length, length-append, LineByte, line_rules, List, no_part, None}
-use Rattle.judge9.proofs.Words.{Observes, Option, Outcome, Paired, Part, Progress, Reason, refl, Refuses, Rows, run_start, Some, some_end, Spoils, subst, sym, tail_after, tail_by_kept, Takes, Terms, Tracked, true, Waits}
-use Rattle.judge9.proofs.Words.{ℕ, ◌++◌, ◌+◌, ◌∙◌, ◌∷◌, ◌≡◌, ◌≤◌}
+use Rattle.judge9.proofs.Words.{[], append-nil, append_assoc, AreRead, arith, Bool, Break, Breaks, Comes, cut_once, Does, events_by, Exchange, exchanges_after, false, false≢true, Feed, Follower}
+use Rattle.judge9.proofs.Words.{GivesRecord, HasRun, inl, InPart, inr, IsKept, IsOk, IsOpen, IsTail, KeepsEnds, KnowsNothing, length, length-append, line_rules, LineByte, List, no_part, None}
+use Rattle.judge9.proofs.Words.{Observes, Option, Outcome, Paired, Part, Progress, refl, Rows, run_start, Some, some_end, Spoils, tail_after, tail_by_kept, Takes, Terms, Tracked, ℕ, ◌++◌, ◌+◌, ◌∙◌}
+use Rattle.judge9.proofs.Words.{◌∷◌, ◌≡◌, ◌≤◌}
 use Rattle.judge9.proofs.CutSteps.{cut-exchange, cut-step}
 use Rattle.judge9.proofs.EventSteps.{events_push}
 use Rattle.judge9.proofs.LawLemmas.{no_run_first, tail_breaks}
@@ -21,6 +21,11 @@ with_record part r o = record {
   events = part.events ++ events_by (part.past + length part.records + 1) part.exchanges part.tail r o;
 }
 
+-- a record with which nothing is told is open, and leaves the exchanges and what was told as they are
+pub open_same : (o : Outcome) → IsOpen o → (n : ℕ) (es : List Exchange) (t : List LineByte) (r : LineByte)
+    → (exchanges_after es o ≡ es) × (events_by n es t r o ≡ []) × (tail_after t r o ≡ t ++ r ∷ [])
+open_same o is_open n es t r = grind arith
+
 -- before the first record of a part
 pub begun : {R : Type 0} {limit : ℕ} {terms : Terms} {rows : Option Rows} {past : List LineByte} {j : Feed R}
     → KnowsNothing terms j.follower → AreRead limit rows past j.rows → InPart limit terms rows past (no_part (length past)) j
@@ -37,15 +42,12 @@ begun {terms = terms} {j = j} begins read = record {
 
 pub later : {R : Type 0} {progress after : Progress R} {paired next : Paired} {r : LineByte} {s : Outcome} → GivesRecord progress r after → Takes paired r s next
     → (x : ℕ) → next.last_time ≡ Some x → x ≤ after.last_time
-later {r = r} given takes x e =
-    let same : Some x ≡ Some r.time_us = sym e ∙ takes.last_time in
-    let t : x ≡ r.time_us = cc in omega arith
+later given takes x e = grind arith
 
 module _ {R : Type 0} {limit : ℕ} {terms : Terms} {rows : Option Rows} {past : List LineByte} {part : Part} {j : Feed R} (h : InPart limit terms rows past part j) where
   -- a record more was read
   pub read_on : {after : Progress R} {r : LineByte} → GivesRecord j.rows r after → AreRead limit rows (past ++ (part.records ++ r ∷ [])) after
-  read_on {after = after} {r = r} gives =
-      subst (λ l. AreRead limit rows l after) (append_assoc past part.records (r ∷ [])) (read_next rows (past ++ part.records) j.rows after r h.are_read gives)
+  read_on {after = after} {r = r} gives = rw append_assoc at (read_next rows (past ++ part.records) j.rows after r h.are_read gives)
 
   -- its number
   pub number_on : {after : Progress R} {r : LineByte} → GivesRecord j.rows r after → after.given ≡ part.past + length part.records + 1
@@ -72,61 +74,36 @@ module _ {R : Type 0} {limit : ℕ} {terms : Terms} {rows : Option Rows} {past :
   }
 
   -- one of which nothing is told
-  pub more_open : {k : Feed R} {r : LineByte} → Comes j k r None → (o : Outcome) × IsOpen o × InPart limit terms rows past (with_record part r o) k
-  more_open {k = k} {r = r} c = by w.outcome w.is_open w.takes
-    where
-      w : Waits j.follower k.follower r
-      w = c.took
-
-      by : (o : Outcome) → IsOpen o → Takes j.follower.pairer r o k.follower.pairer → (o : Outcome) × IsOpen o × InPart limit terms rows past (with_record part r o) k
-      by (Outcome.completes e) is_open takes = absurd is_open
-      by Outcome.answers_late is_open takes = absurd is_open
-      by o is_open takes = (o, is_open, more o c.gives takes h.is_part.run (rw w.same_tracker h.follows))
-
-  -- one that begins a late reply
-  pub more_late : {k : Feed R} {r : LineByte} → GivesRecord j.rows r k.rows → BeginsReplyLate j.follower k.follower r
-      → InPart limit terms rows past (with_record part r Outcome.answers_late) k
-  more_late gives b = more Outcome.answers_late gives b.takes h.is_part.run (rw b.same_tracker h.follows)
+  pub more_open : {k : Feed R} {r : LineByte} (c : Comes j k r None) → InPart limit terms rows past (with_record part r c.took.outcome) k
+  more_open {r = r} c =
+      let w = c.took in
+      let same = (open_same w.outcome w.is_open 0 part.exchanges [] r).0 in
+      more w.outcome c.gives w.takes (rw same h.is_part.run) (rw (same, w.same_tracker) h.follows)
 
   -- the tracker has observed one exchange more
   pub observed_more : {k : Tracked} {e : Exchange} {b : Bool} → Observes j.follower.tracker k e b → KeepsEnds terms.profile (part.exchanges ++ e ∷ []) k
   observed_more {k = k} {e = e} o = follows-more terms.profile part.exchanges e j.follower.tracker k h.follows o.reached o.profile
 
-  -- one that ends an exchange, with which a state remains
-  pub more_exchange : {k : Feed R} {r : LineByte} → GivesRecord j.rows r k.rows → (c : Completes j.follower k.follower r true)
-      → InPart limit terms rows past (with_record part r (Outcome.completes c.exchange)) k
-  more_exchange gives c =
-      let follows = observed_more c.observes in
-      let end = c.observes.remains.0 refl in
-      more (Outcome.completes c.exchange) gives c.takes ((some_end terms.profile (part.exchanges ++ c.exchange ∷ [])).0 (end.0, (follows.states end.0).0 end.1)) follows
+  -- ---- a record that breaks a rule
 
-  -- ---- a record that breaks a rule: one of pairing
-
-  breaks_pairing : {paired : Paired} {next : LineByte} {reason : Reason} → Refuses j.follower.pairer next reason paired → Breaks terms part.records next reason
-  breaks_pairing {next = next} {reason = reason} refuses =
-      let is : IsReason (line_rules terms) part.tail next reason = rw (h.same_rules, h.open_records) at refuses.is_reason in
-      let not_kept : ¬ IsKept (line_rules terms) (part.tail ++ next ∷ []) = rw (h.same_rules, h.open_records) at refuses.not_kept in
-      tail_breaks terms part.records part.exchanges part.tail next reason h.is_part.cut h.is_part.run
-      (λ kept. not_kept (tail_by_kept (line_rules terms) part.records part.exchanges part.tail (next ∷ []) h.is_part.cut kept)) is
-
-  -- or it ends an exchange with which no run remains
+  -- no run remains with the exchange that it ends
   pub none_observed : {k : Tracked} {e : Exchange} → Observes j.follower.tracker k e false → ¬ HasRun terms.profile (part.exchanges ++ e ∷ [])
   none_observed {e = e} o run =
       let end = (some_end terms.profile (part.exchanges ++ e ∷ [])).1 run in
       false≢true (o.remains.1 (end.0, ((observed_more o).states end.0).1 end.1))
 
-  breaks_run : {after : Follower} {r : LineByte} (c : Completes j.follower after r false) → Breaks terms part.records r Reason.NoRun
-  breaks_run {r = r} c =
-      let e = c.exchange in
-      let whole = step_on c.takes in
-      let cut = cut-exchange (line_rules terms) part.records part.exchanges part.tail r e h.is_part.cut whole in
-      let first = no_run_first terms part.exchanges part.tail r e (exchange_less (line_rules terms) part.tail r e whole).1 whole (none_observed c.observes) in
-      let not_ok : ¬ IsOk terms (part.records ++ r ∷ []) =
-      λ ok. none_observed c.observes (subst (HasRun terms.profile) (cut_once (line_rules terms) (part.records ++ r ∷ []) ok.exchanges (part.exchanges ++ e ∷ []) ok.tail [] ok.cut cut).0
-      ok.run) in
-      record { exchanges = part.exchanges; tail = part.tail; cut = h.is_part.cut; run = h.is_part.run; not_ok = not_ok; is_reason = first }
-
-  -- either way
+  -- or the rule is one of pairing
   pub breaks : {after : Follower} {b : Break} → Spoils j.follower after b → Breaks terms part.records b.record b.reason
-  breaks (inl refused) = breaks_pairing refused.0
-  breaks (inr none) = rw none.0 (breaks_run none.1)
+  breaks {b = b} (inl refused) =
+      let is = rw (h.same_rules, h.open_records) at refused.0.is_reason in
+      let not_kept : ¬ IsKept (line_rules terms) (part.tail ++ b.record ∷ []) = rw (h.same_rules, h.open_records) at refused.0.not_kept in
+      tail_breaks terms part.records part.exchanges part.tail b.record b.reason h.is_part.cut h.is_part.run
+      (λ kept. not_kept (tail_by_kept (line_rules terms) part.records part.exchanges part.tail (b.record ∷ []) h.is_part.cut kept)) is
+  breaks {b = b} (inr (is, c, in_time)) =
+      let whole = step_on c.takes in
+      let cut = cut-exchange (line_rules terms) part.records part.exchanges part.tail b.record c.exchange h.is_part.cut whole in
+      let less = (exchange_less (line_rules terms) part.tail b.record c.exchange whole).1 in
+      let first = no_run_first terms part.exchanges part.tail b.record c.exchange less whole (none_observed c.observes) in
+      let not_ok : ¬ IsOk terms (part.records ++ b.record ∷ []) = λ ok.
+      none_observed c.observes (rw (cut_once (line_rules terms) (part.records ++ b.record ∷ []) ok.exchanges (part.exchanges ++ c.exchange ∷ []) ok.tail [] ok.cut cut).0 at ok.run) in
+      rw is (record { exchanges = part.exchanges; tail = part.tail; cut = h.is_part.cut; run = h.is_part.run; not_ok = not_ok; is_reason = first })

@@ -1,22 +1,20 @@
 -- What a judging tells of what it came to, and where it stands then.
-use Rattle.judge9.proofs.Words.{[], ap, append-nil, append_assoc, arith, Beginning, Bool, Break, BrokenPart, CaptureError, ComesToEnd, Err, Event}
-use Rattle.judge9.proofs.Words.{Feed, Fits, Follower, GivesRecord, GivesRefusal, GoesOn, History, inl, inr, InPart, IsBehind, IsPart, IsRefused, IsSilent, IsWithin}
-use Rattle.judge9.proofs.Words.{JudgeError, judged_from, last_time-append, length, length-append, length_push, LineByte, line_rules, List, no_part, Ok, Option, Part, Reached, refusal_of}
-use Rattle.judge9.proofs.Words.{AreParts, refl, Rest, rest_after, Result, Rows, ShowsBreak, Some, Spoils, subst, sym, TellsBesides, TellsBreak, TellsExchange, TellsLateReply, Terms, told_in, Turn, Turned, ℕ}
-use Rattle.judge9.proofs.Words.{besides_by, IsTail, Outcome, run_start, ◌++◌, ◌+◌, ◌∙◌, ◌∷◌, ◌≡◌, ◌⊎◌}
-use Rattle.judge9.specs.Parts.Event.{exchange, late_reply}
-use Rattle.judge9.proofs.Coming.{Came, holds-more}
-use Rattle.judge9.proofs.HistorySteps.{fits_behind, given_here, history_at, history_now}
+use Rattle.judge9.proofs.Words.{[], ap, append-nil, append_assoc, AreEvents, AreParts, arith, Beginning, BeginsLate, besides_by, Bool, Break, BrokenPart, ComesToEnd, Err, Event, exchanges_of, false}
+use Rattle.judge9.proofs.Words.{Feed, Fits, Follower, GivesRecord, GoesOn, History, inl, InPart, inr, IsRefused, IsSilent, IsTail, judged_from, JudgeError, last_time-append, length, length-append}
+use Rattle.judge9.proofs.Words.{length_push, line_rules, LineByte, LineRules, List, no_part, Ok, Option, Outcome, Part, Progress, Reached, records_in, refl, ReplyLimit, Rest, rest_after, Rows}
+use Rattle.judge9.proofs.Words.{run_start, Some, some_end, Spoils, Stage, StandsAt, sym, Tells, TellsBesides, Terms, true, Turn, ℕ, ◌++◌, ◌+◌, ◌∙◌, ◌∷◌, ◌≡◌, ◌≤◌, ◌⊎◌}
+use Rattle.judge9.proofs.Coming.{Came, holds-more, Stays}
+use Rattle.judge9.proofs.ReadSteps.{fit, fits_behind, given_here, history_at}
 use Rattle.judge9.proofs.LawLemmas.{pairing_reason}
-use Rattle.judge9.proofs.SoFar.{breaks, more_exchange, more_late, none_observed, number_on, observed_more, read_on, step_on, with_record}
+use Rattle.judge9.proofs.SoFar.{breaks, more, none_observed, number_on, observed_more, read_on, step_on, with_record}
 use Rattle.judge9.proofs.Told.{told_with_break}
 
 -- behind so many records, so many of which are those of a part
-abbrev pub history : List LineByte → List BrokenPart → Part → List Event → History
+abbrev history : List LineByte → List BrokenPart → Part → List Event → History
 history items broken part besides = record { items = items; broken = broken; part = part; besides = besides }
 
 -- the records that broke a part, the one that breaks among them
-abbrev pub broken_at : Part → Break → Bool → BrokenPart
+abbrev broken_at : Part → Break → Bool → BrokenPart
 broken_at part b late = record {
   part = part;
   breaking = b.record;
@@ -24,239 +22,276 @@ broken_at part b late = record {
   events = part.events ++ besides_by (part.past + length part.records + 1) part.tail b.record late;
 }
 
--- what a break shows
-shows_break : {R : Type 0} {limit : ℕ} {terms : Terms} {rows : Option Rows} {past : List LineByte} {part : Part} {before : Feed R} {after : Follower} {b : Break} (late : Bool)
-    (h : InPart limit terms rows past part before) → Spoils before.follower after b → ShowsBreak terms (broken_at part b late) after.pairer
-shows_break late h (inl refused) =
-    inl (pairing_reason refused.0.is_reason, refused.0.rules ∙ h.same_rules, refused.0.tail ∙ h.open_records)
-shows_break {terms = terms} {part = part} late h (inr none) =
-    let c = none.1 in
-    inr (
-      none.0,
-      c.exchange,
-      c.takes.exchange,
-      step_on h c.takes,
-      record { before = part.exchanges; last = c.exchange; is_split = refl; has_run = h.is_part.run; has_none = none_observed h c.observes },
-    )
+-- the event is told behind more records, of which nothing is told (`front`), and the judging stands here then
+pub record Steps {R : Type 0} (limit : ℕ) (terms : Terms) (beginning : Beginning) (rows : Option Rows) (h : History) (e : Turn) (at : Stage) (k : Feed R) : Type 0 where
+  pub front : History
+  pub silent : IsSilent h front
+  pub reached : Reached limit terms beginning rows front
+  pub next : History
+  pub tells : Tells terms front e next k
+  pub now_reached : Reached limit terms beginning rows next
+  pub stands : StandsAt limit terms beginning rows next at k
+  -- where an exchange is told, all are among the records that were read
+  pub few : e ≡ Turn.Exchange
+      → (length (exchanges_of next.broken ++ next.part.exchanges) ≤ length next.items) × (records_in (exchanges_of next.broken ++ next.part.exchanges) ≤ length next.items)
 
-module _ {R : Type 0} {limit : ℕ} {terms : Terms} {beginning : Beginning} {rows : Option Rows} {h : History} {k : Feed R} where
-  -- all that was told is told behind the records that were read
-  silent : {r : Result Turn JudgeError} (a : Came limit terms beginning rows h r k) (items : List LineByte) → IsSilent h (history items h.broken a.part [])
-  silent a items = record { broken = refl; told = append-nil a.part.events ∙ a.events; exchanges = a.exchanges; still = a.still }
+-- ---- a record that leaves the part as one that goes on
 
-  -- ---- an exchange
+module _ {R : Type 0} {limit : ℕ} {terms : Terms} {rows : Option Rows} {h : History} {front : Feed R} (s : Stays limit terms rows h front) where
+  -- these records were read in all, and nothing more was told
+  abbrev so_far : List LineByte → History
+  so_far records = history (s.past ++ records) h.broken s.part []
 
-  pub exchange_came : (a : Came limit terms beginning rows h (Ok Turn.Exchange) k)
-      → (front : History) × IsSilent h front × Reached limit terms beginning rows front × (next : History) × TellsExchange terms front next k
-      × Reached limit terms beginning rows next × IsWithin limit terms beginning rows next k
-  exchange_came a =
-      let t = a.turned in
-      let r = t.0 in
-      let c = t.1.took in
-      let e = c.exchange in
-      let all = a.past ++ (a.part.records ++ r ∷ []) in
-      let front = history all h.broken a.part [] in
-      let part = with_record a.part r (Outcome.completes e) in
-      let next = history all h.broken part [] in
-      let now = more_exchange a.in_part t.1.gives c in
-      let read = given_here (read_on a.in_part t.1.gives) in
-      let number : a.part.past + length a.part.records + 1 ≡ k.rows.given = sym (number_on a.in_part t.1.gives) in
-      let told : told_in next ≡ told_in front ++ exchange k.rows.given a.part.exchanges e ∷ [] =
-      append-nil part.events ∙ ap (λ n. a.part.events ++ exchange n a.part.exchanges e ∷ []) number ∙ ap (λ l. l ++ exchange k.rows.given a.part.exchanges e ∷ []) (sym (append-nil a.part.events)) in (
-        front,
-        silent a all,
-        record { is_history = history_at h.broken a.in_part (r ∷ []) [] (a.ahead []) (inl refl); were_given = read },
-        next,
-        record {
-          e = e;
-          shown = c.takes.exchange;
-          broken = refl;
-          told = told;
-          exchanges = refl;
-          knows = observed_more a.in_part c.observes;
-          ended = c.takes.last_time ∙ ap Some (sym (last_time-append (line_rules terms) a.part.records (r ∷ []) (omega arith)));
-        },
-        record { is_history = history_now h.broken now (a.ahead []); were_given = read },
-        record {
-          past = a.past;
+  silent : (records : List LineByte) → IsSilent h (so_far records)
+  silent records = record { broken = refl; told = append-nil s.part.events ∙ s.events; exchanges = s.exchanges; still = s.still }
+
+  -- a record more was read
+  read_one : {beginning : Beginning} {after : Progress R} {r : LineByte} → GivesRecord front.rows r after
+      → ((more : List LineByte) → GoesOn terms beginning h.broken s.past (s.part.records ++ r ∷ more)) → Reached limit terms beginning rows (so_far (s.part.records ++ r ∷ []))
+  read_one {r = r} gives on = record {
+    is_history = history_at (so_far (s.part.records ++ r ∷ [])) s.in_part (s.part.records ++ r ∷ []) (r ∷ [], refl) refl (on []) (inl refl);
+    were_given = given_here (read_on s.in_part gives);
+  }
+
+  -- and this is told of it
+  goes_on : {beginning : Beginning} {k : Feed R} {r : LineByte} {e : Turn} (o : Outcome) → GivesRecord front.rows r k.rows
+      → ((more : List LineByte) → GoesOn terms beginning h.broken s.past (s.part.records ++ r ∷ more)) → InPart limit terms rows s.past (with_record s.part r o) k
+      → Tells terms (so_far (s.part.records ++ r ∷ [])) e (history (s.past ++ (s.part.records ++ r ∷ [])) h.broken (with_record s.part r o) []) k
+      → Steps limit terms beginning rows h e Stage.Going k
+  goes_on {beginning = beginning} {r = r} o gives on now tells =
+      let all = s.part.records ++ r ∷ [] in
+      let next = history (s.past ++ all) h.broken (with_record s.part r o) [] in
+      record {
+        front = so_far all;
+        silent = silent all;
+        reached = read_one gives on;
+        next = next;
+        tells = tells;
+        now_reached = record { is_history = history_at next now all ([], sym (append-nil all)) refl (on []) (inl refl); were_given = given_here now.are_read };
+        stands = record {
+          past = s.past;
           in_part = now;
           items = refl;
           none_besides = refl;
-          on = holds-more (GoesOn terms beginning h.broken a.past) a.part.records r a.ahead;
-          fits = a.fits;
-        },
-      )
-
-  -- ---- a late reply
-
-  pub late_came : {first : LineByte} (a : Came limit terms beginning rows h (Ok (Turn.LateReply first)) k)
-      → (front : History) × IsSilent h front × Reached limit terms beginning rows front × (next : History) × TellsLateReply terms front next first k
-      × Reached limit terms beginning rows next × IsWithin limit terms beginning rows next k
-  late_came {first = first} a =
-      let t = a.turned in
-      let r = t.0 in
-      let takes = t.1.took.1.takes in
-      let does = step_on a.in_part takes in
-      let all = a.past ++ (a.part.records ++ r ∷ []) in
-      let front = history all h.broken a.part [] in
-      let part = with_record a.part r Outcome.answers_late in
-      let next = history all h.broken part [] in
-      let now = more_late a.in_part t.1.gives t.1.took.1 in
-      let read = given_here (read_on a.in_part t.1.gives) in
-      let number : a.part.past + length a.part.records + 1 ≡ k.rows.given = sym (number_on a.in_part t.1.gives) in
-      let told : told_in next ≡ told_in front ++ late_reply k.rows.given a.part.tail r ∷ [] =
-      append-nil part.events ∙ ap (λ n. a.part.events ++ late_reply n a.part.tail r ∷ []) number ∙ ap (λ l. l ++ late_reply k.rows.given a.part.tail r ∷ []) (sym (append-nil a.part.events)) in (
-        front,
-        silent a all,
-        record { is_history = history_at h.broken a.in_part (r ∷ []) [] (a.ahead []) (inl refl); were_given = read },
-        next,
-        rw t.1.took.0 (record {
-          asked = a.part.tail;
-          late = does.1;
-          rules = takes.rules ∙ a.in_part.same_rules;
-          open_records = inr (rw a.in_part.open_records at takes.tail);
-          broken = refl;
-          told = told;
-          exchanges = refl;
-          still = λ nil. no_tail a.part.tail r nil;
-        }),
-        record { is_history = history_now h.broken now (a.ahead []); were_given = read },
-        record {
-          past = a.past;
-          in_part = now;
-          items = refl;
-          none_besides = refl;
-          on = holds-more (GoesOn terms beginning h.broken a.past) a.part.records r a.ahead;
-          fits = a.fits;
-        },
-      )
-    where
-      no_tail : {P : Type 0} (t : List LineByte) (r : LineByte) → t ++ r ∷ [] ≡ [] → P
-      no_tail [] r e = cc
-      no_tail (x ∷ t) r e = cc
-
-  -- ---- a record that breaks a rule
-
-  -- what is ahead of it
-  pub ahead_of : {b : Break} (a : Came limit terms beginning rows h (Ok (Turn.Break b)) k) (more : List LineByte) → GoesOn terms beginning h.broken a.past (a.part.records ++ b.record ∷ more)
-  ahead_of a more = subst (λ r. GoesOn terms beginning h.broken a.past (a.part.records ++ r ∷ more)) (sym a.turned.1.took.0) (a.ahead more)
-
-  pub gives_break : {b : Break} (a : Came limit terms beginning rows h (Ok (Turn.Break b)) k) → GivesRecord a.front.rows b.record k.rows
-  gives_break a = subst (λ r. GivesRecord a.front.rows r k.rows) (sym a.turned.1.took.0) a.turned.1.gives
-
--- what was read and told behind a part that broke
-abbrev pub behind : List BrokenPart → List LineByte → Part → Break → Bool → History
-behind broken past part b late =
-    history (past ++ (part.records ++ b.record ∷ [])) (broken ++ broken_at part b late ∷ []) (no_part (rest_after (length (past ++ part.records)) b.reason b.record []).past) []
-
-none_of : (terms : Terms) (n : ℕ) → IsPart terms (no_part n)
-none_of terms n = record { cut = (refl, IsTail.nothing refl); run = run_start terms.profile; are_events = refl }
-
--- the part broke at the record behind these
-module _ {R : Type 0} {limit : ℕ} {terms : Terms} (beginning : Beginning) {rows : Option Rows} (broken : List BrokenPart) {past : List LineByte} {part : Part} {before k : Feed R} (b : Break)
-    (late : Bool) (in_part : InPart limit terms rows past part before) (gives : GivesRecord before.rows b.record k.rows) (spoils : Spoils before.follower k.follower b)
-    (besides : TellsBesides terms.reply_limit (line_rules terms) part.tail b.record late)
-    (on : (more : List LineByte) → GoesOn terms beginning broken past (part.records ++ b.record ∷ more)) (fits : Fits broken past) where
-  onward : (after : List LineByte) (others : List BrokenPart) (left : Rest) → AreParts terms (rest_after (length (past ++ part.records)) b.reason b.record after) others left
-      → AreParts terms (judged_from beginning ((past ++ part.records) ++ b.record ∷ after)) ((broken ++ broken_at part b late ∷ []) ++ others) left
-  onward after others left parts =
-      let n : length (past ++ part.records) ≡ part.past + length part.records = omega (arith, in_part.number, length-append past part.records) in
-      let rest : AreParts terms (rest_after (part.past + length part.records) b.reason b.record after) others left =
-      subst (λ n. AreParts terms (rest_after n b.reason b.record after) others left) n parts in
-      let whole = on after (broken_at part b late ∷ others) left
-      (after, ap (λ n. let rest : Rest = record { past = n; records = part.records ++ b.record ∷ after } in rest) (sym in_part.number), in_part.is_part, breaks in_part spoils, told_with_break part b.record in_part.is_part (breaks in_part spoils).not_ok late besides, rest) in
-      rw (append_assoc past part.records (b.record ∷ after), append_assoc broken (broken_at part b late ∷ []) others) whole
-
-  pub stands_behind : IsBehind limit terms beginning rows (behind broken past part b late) b k
-  stands_behind = record {
-    past = past ++ part.records;
-    before = before.rows;
-    are_read = in_part.are_read;
-    gives = gives;
-    items = sym (append_assoc past part.records (b.record ∷ []));
-    last = (broken, broken_at part b late, refl, refl, sym (number_on in_part gives));
-    none_told = refl;
-    none_besides = refl;
-    on = onward;
-    fits = fits_behind broken (broken_at part b late) in_part fits;
-  }
-
-  pub reached_behind : Reached limit terms beginning rows (behind broken past part b late)
-  reached_behind = record {
-    is_history = record {
-      left = rest_after (length (past ++ part.records)) b.reason b.record [];
-      parts = rw (append-nil, append_assoc past part.records (b.record ∷ [])) at (onward [] [] (rest_after (length (past ++ part.records)) b.reason b.record []) refl);
-      is_part = none_of terms _;
-      past = refl;
-      begins = ((rest_after (length (past ++ part.records)) b.reason b.record []).records, refl);
-      besides = inl refl;
-    };
-    were_given = given_here (read_on in_part gives);
-  }
-
-  -- what is told of it, behind this
-  pub tells_break : (h : History) → h.broken ≡ broken → h.part ≡ part → h.besides ≡ besides_by (part.past + length part.records + 1) part.tail b.record late → TellsBreak terms h (behind broken past part b late) b k
-  tells_break h same_broken same_part same_besides = record {
-    part = broken_at part b late;
-    broken = ap (λ l. l ++ broken_at part b late ∷ []) (sym same_broken);
-    exchanges = ap (λ (p : Part). p.exchanges) (sym same_part);
-    events = rw (same_part, same_besides) refl;
-    still = λ nil. inr (ap (λ (p : Part). p.records) (sym same_part), ap (λ (p : Part). p.tail) same_part ∙ nil);
-    breaking = refl;
-    reason = refl;
-    number = sym (number_on in_part gives);
-    shows = shows_break late in_part spoils;
-    told = refl;
-    none_judged = (refl, refl);
-    read = omega (arith, number_on in_part gives, in_part.number, length-append past (part.records ++ b.record ∷ []), length_push part.records b.record);
-  }
-
--- ---- the end, and a refusal
-
-module _ {R : Type 0} {limit : ℕ} {terms : Terms} {beginning : Beginning} {rows : Option Rows} {h : History} {k : Feed R} where
-  pub end_came : (a : Came limit terms beginning rows h (Ok Turn.End) k) → (front : History) × IsSilent h front × ComesToEnd limit terms beginning rows front k × (front.broken ≡ h.broken) × (front.part.exchanges ≡ h.part.exchanges) × (told_in front ≡ told_in h)
-  unfolding history_now
-  end_came a = (
-    history (a.past ++ a.part.records) h.broken a.part [],
-    record { broken = refl; told = append-nil a.part.events ∙ a.events; exchanges = a.exchanges; still = a.still },
-    record {
-      is_history = history_now h.broken a.in_part a.ahead;
-      all_judged = refl;
-      none_besides = refl;
-      before = a.front.rows;
-      are_read = a.in_part.are_read;
-      ends = a.turned.ends;
-      open_records = ap (λ (f : Follower). f.pairer.tail) a.turned.same_follower ∙ a.in_part.open_records;
-      knows = rw a.turned.same_follower a.in_part.follows;
-    },
-    refl,
-    a.exchanges,
-    append-nil a.part.events ∙ a.events,
-  )
-
-  pub refusal_came : {x : JudgeError} (a : Came limit terms beginning rows h (Err x) k)
-      → (x ≡ JudgeError.OutOfMemory) ⊎ ((front : History) × IsSilent h front × IsRefused limit terms beginning rows front x k)
-  unfolding history_now
-  refusal_came {x = x} a = by a.turned a.ahead
-    where
-      refused : (e : CaptureError) → GivesRefusal a.front.rows e k.rows → x ≡ refusal_of e → GoesOn terms beginning h.broken a.past a.part.records
-          → IsRefused limit terms beginning rows (history (a.past ++ a.part.records) h.broken a.part []) x k
-      refused e refusal is on = record {
-        is_history = history_now h.broken a.in_part on;
-        all_judged = refl;
-        none_besides = refl;
-        before = a.front.rows;
-        are_read = a.in_part.are_read;
-        e = e;
-        refusal = refusal;
-        is_error = is;
+          on = holds-more (GoesOn terms beginning h.broken s.past) s.part.records r on;
+          fits = s.fits;
+        };
+        few = λ is. fit h.broken now s.fits;
       }
 
-      by : Turned a.front (Err x) k → GoesOn terms beginning h.broken a.past a.part.records
-          → (x ≡ JudgeError.OutOfMemory) ⊎ ((front : History) × IsSilent h front × IsRefused limit terms beginning rows front x k)
-      by (inl memory) on = inl memory
-      by (inr (e, refusal, is)) on = inr (
-        history (a.past ++ a.part.records) h.broken a.part [],
-        record { broken = refl; told = append-nil a.part.events ∙ a.events; exchanges = a.exchanges; still = a.still },
-        refused e refusal is on,
+-- ---- a record that breaks a rule
+
+-- it is told as a late reply besides where the reply limit is left aside
+pub besides_late : (limit : ReplyLimit) {rules : LineRules} {t : List LineByte} {r : LineByte} → limit ≡ ReplyLimit.LeftAside → BeginsLate rules t r → TellsBesides limit rules t r true
+besides_late limit aside late = rw aside late
+
+-- it was read behind those of this history, and what is told of it besides its break was told
+module _ {R : Type 0} {limit : ℕ} {terms : Terms} (beginning : Beginning) {rows : Option Rows} {past : List LineByte} {before k : Feed R} (h : History) (b : Break) (late : Bool)
+    (in_part : InPart limit terms rows past h.part before) (gives : GivesRecord before.rows b.record k.rows) (spoils : Spoils before.follower k.follower b)
+    (items : h.items ≡ past ++ (h.part.records ++ b.record ∷ [])) (tells : TellsBesides terms.reply_limit (line_rules terms) h.part.tail b.record late)
+    (besides : h.besides ≡ besides_by (h.part.past + length h.part.records + 1) h.part.tail b.record late)
+    (on : (more : List LineByte) → GoesOn terms beginning h.broken past (h.part.records ++ b.record ∷ more)) (fits : Fits h.broken past) where
+  told : AreEvents terms h.part.past [] (h.part.records ++ b.record ∷ []) (broken_at h.part b late).events
+  told = told_with_break h.part b.record in_part.is_part (breaks in_part spoils).not_ok late tells
+
+  at_break : Reached limit terms beginning rows h
+  at_break = record {
+    is_history = history_at h in_part (h.part.records ++ b.record ∷ []) (b.record ∷ [], refl) items (on []) (inr (b.record, [], refl, b.reason, breaks in_part spoils, rw besides told));
+    were_given = rw items (given_here (read_on in_part gives));
+  }
+
+  -- the parts behind it come after those before it and this one
+  onward : (after : List LineByte) (others : List BrokenPart) (left : Rest) → AreParts terms (rest_after (length (past ++ h.part.records)) b.reason b.record after) others left
+      → AreParts terms (judged_from beginning ((past ++ h.part.records) ++ b.record ∷ after)) ((h.broken ++ broken_at h.part b late ∷ []) ++ others) left
+  onward after others left parts =
+      let n : length (past ++ h.part.records) ≡ h.part.past + length h.part.records = omega (arith, in_part.number, length-append past h.part.records) in
+      rw (append_assoc past h.part.records (b.record ∷ after), append_assoc h.broken (broken_at h.part b late ∷ []) others)
+      (on after (broken_at h.part b late ∷ others) left (after, rw in_part.number refl, in_part.is_part, breaks in_part spoils, told, rw n at parts))
+
+  -- the part broke
+  pub spoiled : {old : History} → IsSilent old h → Steps limit terms beginning rows old (Turn.Break b) (Stage.Broken b) k
+  spoiled silent =
+      let number = number_on in_part gives in
+      let rest = rest_after (length (past ++ h.part.records)) b.reason b.record [] in
+      let all : h.items ≡ (past ++ h.part.records) ++ b.record ∷ [] = items ∙ sym (append_assoc past h.part.records (b.record ∷ [])) in
+      record {
+        front = h;
+        silent = silent;
+        reached = at_break;
+        next = history h.items (h.broken ++ broken_at h.part b late ∷ []) (no_part rest.past) [];
+        tells = record {
+          part = broken_at h.part b late;
+          broken = refl;
+          exchanges = refl;
+          events = rw besides refl;
+          still = λ nil. inr (refl, nil);
+          breaking = refl;
+          reason = refl;
+          number = sym number;
+          shows = elim spoils [
+            | inl (refused, same, late) ↦ inl (pairing_reason refused.is_reason, refused.rules ∙ in_part.same_rules, refused.tail ∙ in_part.open_records)
+            | inr (is, c, in_time) ↦ inr (
+              is,
+              c.exchange,
+              c.takes.exchange,
+              step_on in_part c.takes,
+              record { before = h.part.exchanges; last = c.exchange; is_split = refl; has_run = in_part.is_part.run; has_none = none_observed in_part c.observes },
+            )
+          ];
+          told = refl;
+          none_judged = (refl, refl);
+          read = omega (arith, number, in_part.number, ap length all, length_push (past ++ h.part.records) b.record, length-append past h.part.records);
+        };
+        now_reached = record {
+          is_history = record {
+            left = rest;
+            parts = rw all (rw append-nil at (onward [] [] rest refl));
+            is_part = record { cut = (refl, IsTail.nothing refl); run = run_start terms.profile; are_events = refl };
+            past = refl;
+            begins = (rest.records, refl);
+            besides = inl refl;
+          };
+          were_given = at_break.were_given;
+        };
+        stands = record {
+          past = past ++ h.part.records;
+          before = before.rows;
+          are_read = in_part.are_read;
+          gives = gives;
+          items = all;
+          last = (h.broken, broken_at h.part b late, refl, refl, sym number);
+          none_told = refl;
+          none_besides = refl;
+          on = onward;
+          fits = fits_behind h.broken (broken_at h.part b late) in_part fits;
+        };
+        few = λ is. absurd (cc is);
+      }
+
+-- ---- what came
+
+module _ {R : Type 0} {limit : ℕ} {terms : Terms} {beginning : Beginning} {rows : Option Rows} {h : History} {k : Feed R} where
+  pub exchange_came : Came limit terms beginning rows h (Ok Turn.Exchange) k → Steps limit terms beginning rows h Turn.Exchange Stage.Going k
+  exchange_came a =
+      let s = a.here in
+      let t = a.turned.1 in
+      let e = t.took.exchange in
+      let follows = observed_more s.in_part t.took.observes in
+      let end = t.took.observes.remains.0 refl in
+      let run = (some_end terms.profile (s.part.exchanges ++ e ∷ [])).0 (end.0, (follows.states end.0).0 end.1) in
+      goes_on s (Outcome.completes e) t.gives a.ahead (more s.in_part (Outcome.completes e) t.gives t.took.takes run follows) (record {
+        e = e;
+        shown = t.took.takes.exchange;
+        broken = refl;
+        told = simp (append-nil, number_on s.in_part t.gives);
+        exchanges = refl;
+        knows = follows;
+        ended = t.took.takes.last_time ∙ ap Some (sym (last_time-append (line_rules terms) s.part.records (a.turned.0 ∷ []) (omega arith)));
+      })
+
+  pub late_came : {first : LineByte} → Came limit terms beginning rows h (Ok (Turn.LateReply first)) k → Steps limit terms beginning rows h (Turn.LateReply first) Stage.Going k
+  late_came a =
+      let s = a.here in
+      let t = a.turned.1 in
+      let takes = t.took.1.takes in
+      rw t.took.0 (goes_on s Outcome.answers_late t.gives a.ahead (more s.in_part Outcome.answers_late t.gives takes s.in_part.is_part.run (rw t.took.1.same_tracker s.in_part.follows)) (record {
+        asked = s.part.tail;
+        late = (step_on s.in_part takes).1;
+        rules = takes.rules ∙ s.in_part.same_rules;
+        open_records = inr (rw s.in_part.open_records at takes.tail);
+        broken = refl;
+        told = simp (append-nil, number_on s.in_part t.gives);
+        exchanges = refl;
+        still = λ nil. absurd (omega (arith, ap length nil, length_push s.part.tail a.turned.0));
+      }))
+
+  -- a record that breaks a rule: it is the one that was read
+  module _ {b : Break} (a : Came limit terms beginning rows h (Ok (Turn.Break b)) k) where
+    gives_break : GivesRecord a.front.rows b.record k.rows
+    gives_break = rw a.turned.1.took.0 a.turned.1.gives
+
+    ahead_of : (more : List LineByte) → GoesOn terms beginning h.broken a.here.past (a.here.part.records ++ b.record ∷ more)
+    ahead_of = rw a.turned.1.took.0 a.ahead
+
+    pub break_came : TellsBesides terms.reply_limit (line_rules terms) a.here.part.tail b.record false → Steps limit terms beginning rows h (Turn.Break b) (Stage.Broken b) k
+    break_came tells =
+        let all = a.here.part.records ++ b.record ∷ [] in
+        spoiled beginning (so_far a.here all) b false a.here.in_part gives_break a.turned.1.took.1 refl tells refl ahead_of a.here.fits (silent a.here all)
+
+    -- and begins a late reply besides, which is told first
+    pub besides_came : terms.reply_limit ≡ ReplyLimit.LeftAside → BeginsLate (line_rules terms) a.here.part.tail b.record → k.follower.pairer.rules ≡ line_rules terms
+        → k.follower.pairer.tail ≡ a.here.part.tail → Steps limit terms beginning rows h (Turn.LateReply b.record) (Stage.LateTold b) k
+    besides_came aside late rules tail =
+        let s = a.here in
+        let all = s.part.records ++ b.record ∷ [] in
+        let next = history (s.past ++ all) h.broken s.part (besides_by (s.part.past + length s.part.records + 1) s.part.tail b.record true) in
+        record {
+          front = so_far s all;
+          silent = silent s all;
+          reached = read_one s gives_break ahead_of;
+          next = next;
+          tells = record {
+            asked = s.part.tail;
+            late = late;
+            rules = rules;
+            open_records = inl tail;
+            broken = refl;
+            told = simp (append-nil, number_on s.in_part gives_break);
+            exchanges = refl;
+            still = λ nil. inr (refl, nil);
+          };
+          now_reached = at_break beginning next b true s.in_part gives_break a.turned.1.took.1 refl (besides_late terms.reply_limit aside late) refl ahead_of s.fits;
+          stands = record {
+            past = s.past;
+            before = a.front;
+            in_part = s.in_part;
+            gives = gives_break;
+            spoils = a.turned.1.took.1;
+            items = refl;
+            left_aside = aside;
+            late = late;
+            besides = refl;
+            on = ahead_of;
+            fits = s.fits;
+          };
+          few = λ is. absurd (cc is);
+        }
+
+  -- the end, and a refusal
+  pub end_came : Came limit terms beginning rows h (Ok Turn.End) k → (front : History) × IsSilent h front × ComesToEnd limit terms beginning rows front k
+  end_came a =
+      let s = a.here in (
+        so_far s s.part.records,
+        silent s s.part.records,
+        record {
+          is_history = history_at (so_far s s.part.records) s.in_part s.part.records ([], sym (append-nil s.part.records)) refl a.ahead (inl refl);
+          all_judged = refl;
+          none_besides = refl;
+          before = a.front.rows;
+          are_read = s.in_part.are_read;
+          ends = a.turned.ends;
+          open_records = ap (λ (f : Follower). f.pairer.tail) a.turned.same_follower ∙ s.in_part.open_records;
+          knows = rw a.turned.same_follower s.in_part.follows;
+        },
       )
+
+  pub refusal_came : {x : JudgeError} → Came limit terms beginning rows h (Err x) k
+      → (x ≡ JudgeError.OutOfMemory) ⊎ ((front : History) × IsSilent h front × IsRefused limit terms beginning rows front x k)
+  refusal_came a = elim a.turned [
+    | inl memory ↦ inl memory
+    | inr of_rows ↦
+        let s = a.here in inr (
+          so_far s s.part.records,
+          silent s s.part.records,
+          record {
+            is_history = history_at (so_far s s.part.records) s.in_part s.part.records ([], sym (append-nil s.part.records)) refl a.ahead (inl refl);
+            all_judged = refl;
+            none_besides = refl;
+            before = a.front.rows;
+            are_read = s.in_part.are_read;
+            e = of_rows.0;
+            refusal = of_rows.1;
+            is_error = of_rows.2;
+          },
+        )
+  ]

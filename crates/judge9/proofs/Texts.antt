@@ -1,23 +1,15 @@
 -- The text of what was told, with one event more.
-use Rattle.judge9.proofs.Words.{[], ap, append-nil, append_assoc, AreTextsOf, Ends, Event, Exchange, Feed, History, inl, inr, IsBreakText, IsEnd, IsEventText, IsPartText, IsSilent, IsTextOf, IsToldText, IsWhy, knowledge_same}
-use Rattle.judge9.proofs.Words.{List, Option, Possible, refl, SaysWhy, ShowsBreak, sym, TellsBreak, TellsExchange, TellsLateReply, Terms, told_in, Turn, View, WhyNo, ℕ, ◌++◌, ◌∙◌, ◌∷◌, ◌≡◌}
-use Rattle.judge9.specs.declared.event.Break.{Break}
-use Rattle.judge9.specs.Parts.Event.{exchange, late_reply}
+use Rattle.judge9.proofs.Words.{[], ap, append-nil, append_assoc, AreTextsOf, Break, Ends, Event, Exchange, exchange, Feed, History, inl, inr, IsBreakText, IsEnd, IsEventText, IsPartText, IsSilent}
+use Rattle.judge9.proofs.Words.{IsTextOf, IsToldText, IsWhy, knowledge_same, late_reply, List, Option, Possible, refl, SaysWhy, ShowsBreak, sym, Tells, TellsBreak, TellsExchange, TellsLateReply}
+use Rattle.judge9.proofs.Words.{Terms, told_in, Turn, View, WhyNo, ℕ, ◌++◌, ◌∙◌, ◌∷◌, ◌≡◌}
 use Rattle.judge9.proofs.TurnSteps.{same_exchange}
 
--- ---- texts
-
--- those of one list, and then those of another
-pub texts_joined : {A : Type 0} (T : A → List ℕ → Type 0) (xs ys : List A) (first others : List ℕ) → AreTextsOf T xs first → AreTextsOf T ys others
-    → AreTextsOf T (xs ++ ys) (first ++ others)
-texts_joined T [] ys first others h k = rw h k
-texts_joined T (x ∷ xs) ys first others h k =
-    (h.0, h.1 ++ others, h.2, texts_joined T xs ys h.1 others h.3 k, ap (λ t. t ++ others) h.4 ∙ append_assoc h.0 h.1 others)
-
--- that of one more
-pub texts_push : {A : Type 0} (T : A → List ℕ → Type 0) (xs : List A) (x : A) (texts text : List ℕ) → AreTextsOf T xs texts → T x text
+-- those of a list, and that of one more
+texts_push : {A : Type 0} (T : A → List ℕ → Type 0) (xs : List A) (x : A) (texts text : List ℕ) → AreTextsOf T xs texts → T x text
     → AreTextsOf T (xs ++ x ∷ []) (texts ++ text)
-texts_push T xs x texts text are is = texts_joined T xs (x ∷ []) texts text are (text, [], is, refl, sym (append-nil text))
+texts_push T [] x texts text are is = rw are (text, [], is, refl, sym (append-nil text))
+texts_push T (y ∷ xs) x texts text (first, others, one, rest, same) is =
+    (first, others ++ text, one, texts_push T xs x others text rest is, ap (λ t. t ++ text) same ∙ append_assoc first others text)
 
 -- ---- what was told
 
@@ -39,17 +31,15 @@ module _ {view : View} {terms : Terms} where
 -- an exchange
 exchange_text : {R : Type 0} (view : View) {terms : Terms} {h next : History} {j : Feed R} (es : List Exchange) (us : Option ℕ) (line : List ℕ) (t : TellsExchange terms h next j)
     → IsTextOf view terms.profile j es us Turn.Exchange line → IsEventText view terms (exchange j.rows.given h.part.exchanges t.e) line
-exchange_text View.Verdict es us line t is = is
 exchange_text (View.Explain detail) {terms = terms} {h = h} {j = j} es us line t (e, shown, known, knows, is) =
     (known, knowledge_same (Possible j.follower.tracker.states) (Ends terms.profile (h.part.exchanges ++ t.e ∷ [])) known t.knows.states knows, rw (same_exchange shown t.shown) at is)
-exchange_text View.Why es us line t is = is
+exchange_text view es us line t is = is
 
 -- a late reply
 late_text : {R : Type 0} (view : View) {terms : Terms} {h next : History} {j : Feed R} {r : _} (es : List Exchange) (us : Option ℕ) (line : List ℕ) (t : TellsLateReply terms h next r j)
     → IsTextOf view terms.profile j es us (Turn.LateReply r) line → IsEventText view terms (late_reply j.rows.given t.asked r) line
-late_text View.Verdict es us line t is = is
-late_text (View.Explain detail) es us line t is = is
 late_text View.Why es us line t (why, says, is) = (why, rw t.rules at (says t.asked (rw t.rules t.late) t.open_records), is)
+late_text view es us line t is = is
 
 -- why a part breaks
 module _ {R : Type 0} {terms : Terms} {h next : History} {b : Break} {j : Feed R} (es : List Exchange) (us : Option ℕ) (t : TellsBreak terms h next b j) where
@@ -70,14 +60,13 @@ module _ {R : Type 0} {terms : Terms} {h next : History} {b : Break} {j : Feed R
       let same = same_exchange e_is f_is in
       (number ∙ sym t.number, no_run, f, whole, rw (same, kept) at items, rw items contradict, rw items could)
 
-  pub break_text : (view : View) (line : List ℕ) → (view ≡ View.Why → (es ≡ t.part.part.exchanges) × (t.part.part.tail ≡ [] → IsEnd t.part.part.records es us))
+  break_text : (view : View) (line : List ℕ) → (view ≡ View.Why → (es ≡ t.part.part.exchanges) × (t.part.part.tail ≡ [] → IsEnd t.part.part.records es us))
       → IsTextOf view terms.profile j es us (Turn.Break b) line → IsBreakText view terms t.part line
-  break_text View.Verdict line kept is = rw (t.number, t.reason) is
-  break_text (View.Explain detail) line kept is = rw (t.number, t.reason) is
   break_text View.Why line kept (why, says, is) = (why, why_text (kept refl) why says t.shows, is)
+  break_text view line kept is = rw (t.number, t.reason) is
 
   -- and with it the part was told
-  pub text_break : (view : View) {text : List ℕ} (line : List ℕ) → (view ≡ View.Why → (es ≡ t.part.part.exchanges) × (t.part.part.tail ≡ [] → IsEnd t.part.part.records es us))
+  text_break : (view : View) {text : List ℕ} (line : List ℕ) → (view ≡ View.Why → (es ≡ t.part.part.exchanges) × (t.part.part.tail ≡ [] → IsEnd t.part.part.records es us))
       → IsTextOf view terms.profile j es us (Turn.Break b) line → IsToldText view terms h text → IsToldText view terms next (text ++ line)
   text_break view line kept is told = record {
     texts = told.texts ++ (told.lines ++ line);
@@ -88,10 +77,11 @@ module _ {R : Type 0} {terms : Terms} {h next : History} {b : Break} {j : Feed R
     whole = ap (λ l. l ++ line) told.whole ∙ append_assoc told.texts told.lines line ∙ sym (append-nil _);
   }
 
-pub text_exchange : {R : Type 0} (view : View) {terms : Terms} {h next : History} {j : Feed R} (es : List Exchange) (us : Option ℕ) {text : List ℕ} (line : List ℕ) → TellsExchange terms h next j
-    → IsTextOf view terms.profile j es us Turn.Exchange line → IsToldText view terms h text → IsToldText view terms next (text ++ line)
-text_exchange view es us line t is told = more_text line _ t.broken t.told (exchange_text view es us line t is) told
-
-pub text_late : {R : Type 0} (view : View) {terms : Terms} {h next : History} {j : Feed R} {r : _} (es : List Exchange) (us : Option ℕ) {text : List ℕ} (line : List ℕ) → TellsLateReply terms h next r j
-    → IsTextOf view terms.profile j es us (Turn.LateReply r) line → IsToldText view terms h text → IsToldText view terms next (text ++ line)
-text_late view es us line t is told = more_text line _ t.broken t.told (late_text view es us line t is) told
+-- an event more
+pub text_next : {R : Type 0} (view : View) {terms : Terms} {h next : History} {j : Feed R} (es : List Exchange) (us : Option ℕ) (event : Turn) {text : List ℕ} (line : List ℕ)
+    → ((b : Break) (t : TellsBreak terms h next b j) → view ≡ View.Why → (es ≡ t.part.part.exchanges) × (t.part.part.tail ≡ [] → IsEnd t.part.part.records es us))
+    → Tells terms h event next j → IsTextOf view terms.profile j es us event line → IsToldText view terms h text → IsToldText view terms next (text ++ line)
+text_next view es us Turn.Exchange line facts t is told = more_text line _ t.broken t.told (exchange_text view es us line t is) told
+text_next view es us (Turn.LateReply r) line facts t is told = more_text line _ t.broken t.told (late_text view es us line t is) told
+text_next view es us (Turn.Break b) line facts t is told = text_break es us t view line (facts b t) is told
+text_next view es us Turn.End line facts t is told = absurd t

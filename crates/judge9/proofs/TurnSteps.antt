@@ -1,8 +1,8 @@
 -- What the rows do whose records come to nothing yet, and what a record comes to.
 use Rattle.std.specs.declared.alloc.AllocError.{AllocError}
-use Rattle.judge9.proofs.Words.{ap, AreOpen, arith, Comes, ComesTo, Err, Exchange, Feed, Follower, ForSome, inr, IsErrAnd, IsObserved}
-use Rattle.judge9.proofs.Words.{JudgeError, LineByte, None, Ok, Option, Outcome, Paired, refl, Result, Some, Step, step_of, subst, suc, sym, Takes, Took}
-use Rattle.judge9.proofs.Words.{Turn, Turned, zero, ℕ, ◌≡◌, ◌≤◌}
+use Rattle.judge9.proofs.Words.{ap, AreOpen, arith, CaptureError, Comes, ComesTo, Err, Exchange, Feed, Follower, ForSome, GivesEnd, GivesRefusal, inr, IsErrAnd, IsObserved, JudgeError, KnowsNothing}
+use Rattle.judge9.proofs.Words.{last_of, LineByte, may_begin, None, Ok, Option, Outcome, Paired, PassesOver, Progress, refusal_of, Result, Resumes, ResumesAfter, Some, Step, step_of, subst, suc, sym}
+use Rattle.judge9.proofs.Words.{Takes, Terms, Took, true, Turn, Turned, zero, ℕ, ◌≡◌, ◌≤◌, ◌⊎◌}
 use Rattle.judge9.proofs.SoFar.{later}
 
 -- an error that is handed on
@@ -32,6 +32,16 @@ waits_more {front = front} {r = r} o one =
 pub none_lost : {R : Type 0} {j k : Feed R} {r : Result Turn JudgeError} (c : ComesTo j r k) → j.rows.given ≤ c.front.rows.given
 none_lost {j = j} c = opened (λ k. j.rows.given ≤ k.rows.given) (λ i k r low one. omega (arith, one.gives)) c.are_open.0 c.front (omega arith) c.are_open.1
 
+-- ---- records that were passed over
+
+-- and then came the first that is judged, the end of the rows, or a refusal
+pub resumed : {R : Type 0} {terms : Terms} {last : Option LineByte} {old new : Progress R} {came : Result (Option LineByte) JudgeError} {result : Result Turn JudgeError} {k : Feed R}
+    (over : PassesOver old last came new)
+    → ((first : LineByte) × (may_begin (last_of last over.passed) first ≡ true) × Resumes terms over.mid first result k)
+    ⊎ ((result ≡ Ok Turn.End) × GivesEnd over.mid k.rows × KnowsNothing terms k.follower)
+    ⊎ ((e : CaptureError) × GivesRefusal over.mid e k.rows × (result ≡ Err (refusal_of e)) × KnowsNothing terms k.follower) → ResumesAfter terms last old result k
+resumed over then = record { passed = over.passed; none_begins = over.none_begins; mid = over.mid; gives = over.gives; then = then }
+
 -- ---- what a record comes to
 
 -- the exchange is the one that the pairer shows
@@ -40,16 +50,10 @@ same_exchange one other = cc
 
 -- what the pairer answered of a record
 pub answering_late : (o : Outcome) → Step.LateReply ≡ step_of o → o ≡ Outcome.answers_late
-answering_late Outcome.leaves_open is = absurd (cc is)
-answering_late Outcome.answers_late is = refl
-answering_late Outcome.asks is = absurd (cc is)
-answering_late (Outcome.completes e) is = absurd (cc is)
+answering_late o is = grind arith
 
 pub completing : (o : Outcome) → Step.Exchange ≡ step_of o → (e : Exchange) × (o ≡ Outcome.completes e)
-completing Outcome.leaves_open is = absurd (cc is)
-completing Outcome.answers_late is = absurd (cc is)
-completing Outcome.asks is = absurd (cc is)
-completing (Outcome.completes e) is = (e, refl)
+completing o is = grind arith
 
 -- what the tracker makes of an exchange that a record made whole
 pub took-observed : (f g : Follower) {paired : Paired} {r : LineByte} {e : Exchange} (result : Result (Option Turn) AllocError)
@@ -57,10 +61,8 @@ pub took-observed : (f g : Follower) {paired : Paired} {r : LineByte} {e : Excha
 took-observed f g {e = e} (Ok (Some Turn.Exchange)) takes same o = record { exchange = e; takes = rw same takes; observes = o }
 took-observed f g {e = e} (Ok (Some (Turn.Break b))) takes same o =
     (o.0, inr (o.1, record { exchange = e; takes = rw (same, o.0) takes; observes = o.2 }, o.3))
-took-observed f g (Ok (Some Turn.End)) takes same o = absurd o
-took-observed f g (Ok (Some (Turn.LateReply x))) takes same o = absurd o
-took-observed f g (Ok None) takes same o = absurd o
 took-observed f g (Err x) takes same o = tt
+took-observed f g result takes same o = absurd o
 
 -- a row whose record came to this turn
 pub turned_by : {R : Type 0} (j k : Feed R) (r : LineByte) (turn : Turn) → Comes j k r (Some turn) → Turned j (Ok turn) k

@@ -1,12 +1,11 @@
 -- What is promised of a verdict and of a refusal follows from what was told.
-use Rattle.judge9.proofs.Words.{[], Answer, answer_of, ap, append_assoc, AreCounts, AreParts, arith, Beginning, Bool, BrokenPart, by_totals, by_verdict, CanBeResult, CaptureError, counting, Err, Extent, false, HasHeader, History, IfErr, IfNone, IfSome, if◌then◌else◌, inl, inr}
-use Rattle.judge9.proofs.Words.{is_of_text, IsAnswerFrom, IsHistory, IsOfSomeText, IsOk, IsStartOf, IsTheAnswer, JudgeError, judged_from, judged_rows, length, length-append, line_rules, LineByte, List, most_rows, None, Ok, Option, option_map}
-use Rattle.judge9.proofs.Words.{passed_before, Profile, refl, Rest, Result, Rows, rows_of, rows_within, Scope, Some, StoppedBefore, subst, tail_short, Terms, true, Verdict, View, ℕ, ◌++◌, ◌+◌, ◌∷◌, ◌≡◌, ◌≢◌, ◌≤◌}
+use Rattle.judge9.proofs.Words.{[], Answer, answer_of, Answers, ap, append_assoc, AreCounts, AreParts, arith, Beginning, Bool, BrokenPart, by_totals, by_verdict, CanBeResult, CaptureError, counting}
+use Rattle.judge9.proofs.Words.{Err, Extent, false, HasHeader, History, IfErr, IfNone, IfSome, if◌then◌else◌, inl, inr, is_of_text, IsAnswerFrom, IsHistory, IsOfSomeText, IsOk, IsStartOf}
+use Rattle.judge9.proofs.Words.{IsTheAnswer, Judged, judged_from, judged_rows, JudgeError, length, length-append, line_rules, LineByte, List, most_rows, None, Ok, Option, option_map, passed_before}
+use Rattle.judge9.proofs.Words.{Profile, refl, Rest, Result, Rows, rows_of, rows_within, Scope, Some, StoppedBefore, subst, tail_short, Terms, Totals, true, Verdict, View, ℕ, ◌++◌, ◌+◌, ◌∷◌, ◌≡◌}
+use Rattle.judge9.proofs.Words.{◌≢◌, ◌≤◌}
 use Rattle.capture9.proofs.LawLemmas.{can-be}
 use Rattle.capture9.proofs.Words.{default_config, records, strip_bom}
-use Rattle.report9.specs.declared.totals.Totals.{Totals}
-use Rattle.judge9.specs.Judging.{Answers}
-use Rattle.judge9.specs.Working.Reporting.{Judged}
 use Rattle.judge9.proofs.LawLemmas.{answer_once, cut_tail, part_ok}
 use Rattle.judge9.proofs.LineSteps.{cut_counts}
 use Rattle.judge9.proofs.PartSteps.{judged_more, judged_size}
@@ -73,8 +72,7 @@ module _ {view : View} {beginning : Beginning} {profile : Profile} {known : Opti
       by true text = rw (j.told.written.0.fault text) (the_answer beginning profile _ (Answer.unreadable e)
           (refl, judged_ok j.told.so_far.is_history (j.refusal.2 refl) j.told.written.0.all_judged))
       by false other = tt
-  right (Err JudgeError.Write) j = tt
-  right (Err JudgeError.OutOfMemory) j = tt
+  right (Err e) j = tt
 
   can_be : (r : Result Verdict JudgeError) (j : Judged view (up_to_break beginning) profile known (by_verdict r) old new) → length j.told.rows.records ≤ most_rows → CanBeResult r
   can_be (Ok (Verdict.Yes records exchanges tail)) j few =
@@ -105,8 +103,7 @@ module _ {view : View} {beginning : Beginning} {profile : Profile} {known : Opti
         few = elim j.told.written.0.place.row [ inl at ↦ omega (arith, at, few, all, ap length start.1) | inr at ↦ omega (arith, at.0) ];
         at_its_row = j.told.written.0.place.at_its_row;
       }
-  can_be (Err JudgeError.Write) j few = tt
-  can_be (Err JudgeError.OutOfMemory) j few = tt
+  can_be (Err e) j few = tt
 
 -- ---- where the text is known, or not
 
@@ -124,7 +121,6 @@ module _ {view : View} {beginning : Beginning} {profile : Profile} {old new : Op
   stopped : (text : Option (List ℕ)) (r : Result Verdict JudgeError) → Judged view (up_to_break beginning) profile (option_map rows_of text) (by_verdict r) old new
       → IfSome text (λ t. IfErr r (StoppedBefore beginning profile (rows_of t)))
   stopped None r j = tt
-  stopped (Some t) (Ok v) j = tt
   stopped (Some t) (Err (JudgeError.Capture e)) j = λ read. record {
     items = j.told.so_far.history.items;
     start = subst (λ (rows : Rows). IsStartOf j.told.so_far.history.items rows.records) j.told.is_known j.told.so_far.start;
@@ -132,8 +128,7 @@ module _ {view : View} {beginning : Beginning} {profile : Profile} {old new : Op
     has_header = j.refusal.1;
     is_ok = judged_ok j.told.so_far.is_history (j.refusal.2 refl) j.told.written.0.all_judged;
   }
-  stopped (Some t) (Err JudgeError.Write) j = tt
-  stopped (Some t) (Err JudgeError.OutOfMemory) j = tt
+  stopped (Some t) r j = tt
 
   pub answers_of : (text : Option (List ℕ)) (r : Result Verdict JudgeError) → Judged view (up_to_break beginning) profile (option_map rows_of text) (by_verdict r) old new
       → Answers beginning profile text r

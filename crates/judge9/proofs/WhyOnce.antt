@@ -1,18 +1,14 @@
 -- Why a part breaks is told in one way.
-use Rattle.judge9.proofs.Words.{[], ap, arith, Bool, BrokenPart, Command, CouldShow, Exchange, has, HasRun, if◌then◌else◌, IsKnowledge, IsKnown, IsKnownEntry, IsWhy, Knowledge, Known, KnownEntry, length, length_push}
-use Rattle.judge9.proofs.Words.{line_rules, LineByte, LineRules, List, Mode, ModeSet, None, Option, Outcome, Profile, refl, Register, same_parts, Some, some_end, State, sym, Terms, text_of_why, true, WhyNo}
-use Rattle.judge9.proofs.Words.{bytes_of, command_of, EndedExchange, false, IsBefore, ◌++◌, ◌↔◌, ◌∙◌, ◌∷◌, ◌≡◌}
+use Rattle.judge9.proofs.Words.{[], ap, append-nil, arith, Block, Bool, BrokenPart, bytes_of, Command, command_of, Controller, CouldShow, cut_once, EndedExchange, Exchange, has, HasRun}
+use Rattle.judge9.proofs.Words.{if◌then◌else◌, IsBefore, IsCommand, IsExchange, IsKnowledge, IsKnown, IsKnownEntry, IsOpenAfter, IsTail, IsWhy, Knowledge, Known, KnownEntry, length, length_push}
+use Rattle.judge9.proofs.Words.{line_rules, LineByte, LineRules, List, Mode, ModeSet, None, Open, Option, Profile, refl, Register, Some, some_end, State, sym, Terms, text_of_why, true, WhyNo, ◌++◌}
+use Rattle.judge9.proofs.Words.{◌↔◌, ◌∙◌, ◌∷◌, ◌≡◌}
 use Rattle.std.specs.Prelude.{codes, ◌%◌}
 use Rattle.std.specs.List.{list_all, list_any, sum}
-use Rattle.capture9.specs.declared.line_byte.Wire.TheVariants.{Controller}
 use Rattle.block9.proofs.LineLemmas.{whole_parts}
 use Rattle.block9.proofs.TailLemmas.{in_reply_of, place_in_command, place_of_command}
-use Rattle.block9.specs.Exchange.{IsCommand}
 use Rattle.block9.specs.Line.{block_len}
-use Rattle.block9.specs.Pairer.{IsOpenAfter}
 use Rattle.block9.specs.Pairer.IsOpenAfter.{after_command, in_command, in_reply, nothing}
-use Rattle.block9.specs.declared.block.Block.{Block}
-use Rattle.block9.specs.declared.open.Open.{Open}
 use Rattle.block9.specs.Working.Table.{place_of}
 use Rattle.deck9.specs.Mode.{every_mode, name_of as name_of_mode}
 use Rattle.report9.specs.ExchangeBytes.{text_of_modes}
@@ -20,7 +16,7 @@ use Rattle.report9.specs.Row.{in_a_row, names_of}
 use Rattle.report9.specs.WhyText.{line_of_could_show, lines_of_break, text_of_shown}
 use Rattle.why9.proofs.OneContradiction.{one_contradiction}
 use Rattle.why9.specs.Shown.{CouldBe}
-use Rattle.judge9.proofs.EventSteps.{does_once}
+use Rattle.judge9.proofs.EventSteps.{push_once}
 
 -- ---- what is open
 
@@ -54,16 +50,17 @@ module _ (rules : LineRules) where
 
 -- ---- the exchange before
 
+ended_by_fields : (a b : EndedExchange) → a.exchange ≡ b.exchange → a.end_us ≡ b.end_us → Some a ≡ Some b
+ended_by_fields a b exchange end = grind arith
+
 before_once : (records : List LineByte) (es : List Exchange) (tail : List LineByte) (x y : Option EndedExchange) → IsBefore records es tail x → IsBefore records es tail y → x ≡ y
 before_once records es (r ∷ tail) x y a b = a ∙ sym b
 before_once records es [] None None a b = refl
 before_once records es [] None (Some last) a b = absurd (omega (arith, ap length (sym a ∙ b.1), length_push b.0 last.exchange))
 before_once records es [] (Some last) None a b = absurd (omega (arith, ap length (sym b ∙ a.1), length_push a.0 last.exchange))
 before_once records es [] (Some last) (Some other) a b =
-    let same = sym a.1 ∙ b.1 in
-    let parts = (same_parts a.0 b.0 (last.exchange ∷ []) (other.exchange ∷ []) (omega (arith, ap length same, length_push a.0 last.exchange, length_push b.0 other.exchange)) same).1 in
-    let exchange : last.exchange ≡ other.exchange = cc in
-    ap (λ e. Some (record { exchange = e; end_us = last.end_us })) exchange ∙ ap (λ n. Some (record { exchange = other.exchange; end_us = n })) (a.2 ∙ sym b.2)
+    let exchange = (push_once a.0 b.0 last.exchange other.exchange (sym a.1 ∙ b.1)).1 in
+    ended_by_fields last other exchange (cc (a.2, b.2))
 
 -- ---- what the deck could show
 
@@ -87,10 +84,7 @@ knowledge_once X k l some a b = grind (
 )
 
 bool_once : (a b : Bool) (P : Type 0) → (a ≡ true) ↔ P → (b ≡ true) ↔ P → a ≡ b
-bool_once true true P h k = refl
-bool_once true false P h k = sym (k.1 (h.0 refl))
-bool_once false true P h k = h.1 (k.0 refl)
-bool_once false false P h k = refl
+bool_once a b P h k = grind arith
 
 shown_once : (set other : ModeSet) → ((m : Mode) → has set.0 m ≡ has other.0 m) → text_of_shown set ≡ text_of_shown other
 unfolding text_of_shown text_of_modes
@@ -104,15 +98,11 @@ could_show_once : (profile : Profile) (es : List Exchange) (e : Exchange) (k l :
 unfolding line_of_could_show
 could_show_once profile es e k l set other run a b = cc (shown_once set other modes, knows)
   where
-    same_before : (before : List Exchange) (last : Exchange) → es ++ e ∷ [] ≡ before ++ last ∷ [] → before ≡ es
-    same_before before last split =
-        sym (same_parts es before (e ∷ []) (last ∷ []) (omega (arith, ap length split, length_push es e, length_push before last)) split).0
-
     one : a.before ≡ es
-    one = same_before a.before a.last a.split
+    one = sym (push_once es a.before e a.last a.split).0
 
     also : b.before ≡ es
-    also = same_before b.before b.last b.split
+    also = sym (push_once es b.before e b.last b.split).0
 
     some : (s : State) × CouldBe profile es s
     some = let end = (some_end profile es).1 run in (end.0, (end.0, end.1, ([], refl)))
@@ -124,6 +114,12 @@ could_show_once profile es e k l set other run a b = cc (shown_once set other mo
     modes m = bool_once (has set.0 m) (has other.0 m) ((s : State) × CouldBe profile es s × (s.shown ≡ m)) (rw one at (a.shows m)) (rw also at (b.shows m))
 
 -- ---- why a part breaks
+
+exchange_once : (rules : LineRules) (records : List LineByte) (e f : Exchange) → IsExchange rules records e → IsExchange rules records f → e ≡ f
+exchange_once rules records e f h k =
+    let split = sym (append-nil records) in
+    let same = (cut_once rules records (e ∷ []) (f ∷ []) [] [] (records, [], split, h, (refl, IsTail.nothing refl)) (records, [], split, k, (refl, IsTail.nothing refl))).0 in
+    cc
 
 pub why_once : (terms : Terms) (b : BrokenPart) (v w : WhyNo) → HasRun terms.profile b.part.exchanges → IsWhy terms b v → IsWhy terms b w
     → text_of_why terms.profile v ≡ text_of_why terms.profile w
@@ -141,8 +137,7 @@ why_once terms b (WhyNo.Break at reason tail o before r) (WhyNo.Contradiction n 
 why_once terms b (WhyNo.Contradiction n es places k set) (WhyNo.Break at reason tail o before r) run is also = absurd (also.2 is.1)
 why_once terms b (WhyNo.Contradiction at es places k set) (WhyNo.Contradiction n fs others l modes) run is also =
     let p0 = terms.profile in
-    let done = does_once (line_rules terms) b.part.tail b.breaking (Outcome.completes is.2) (Outcome.completes also.2) is.3 also.3 in
-    let ended : is.2 ≡ also.2 = cc in
+    let ended = exchange_once (line_rules terms) (b.part.tail ++ b.breaking ∷ []) is.2 also.2 is.3 also.3 in
     let exchanges : es.items ≡ b.part.exchanges ++ also.2 ∷ [] = is.4 ∙ ap (λ e. b.part.exchanges ++ e ∷ []) ended in
     let same : es.items ≡ fs.items = exchanges ∙ sym also.4 in
     cc (

@@ -1,11 +1,8 @@
 -- Why a record broke a rule.
-use Rattle.judge9.proofs.Words.{BeginsLate, take_all, ◌⊎◌, LineRules, Err, IfOk, Result, SaysNoRun, [], ap, arith, Break, Exchange, inl, inr, length, LineByte, List, Ok, Option, Paired, Profile, Reason, SaysWhy, take, take-append_seam, Some, WhyNo, ℕ}
-use Rattle.judge9.proofs.Words.{◌++◌, ◌∙◌, ◌∷◌, ◌≡◌}
+use Rattle.judge9.proofs.Words.{[], ap, arith, BeginsLate, Break, Err, Exchange, IfOk, inl, inr, IsOpenAfter, length, LineByte, LineRules, List, Ok, OnOk, Open, Option, Paired, Profile, Reason}
+use Rattle.judge9.proofs.Words.{Result, SaysNoRun, SaysWhy, Some, take, take-append_seam, take_all, WhyNo, ℕ, ◌++◌, ◌∙◌, ◌∷◌, ◌≡◌, ◌⊎◌}
 use Rattle.std.specs.declared.alloc.AllocError.{AllocError}
-use Rattle.std.specs.Result.{OnOk}
 use Rattle.block9.proofs.FeedLemmas.{open_after_late, open_before_late}
-use Rattle.block9.specs.Pairer.{IsOpenAfter}
-use Rattle.block9.specs.declared.open.Open.{Open}
 
 -- what follows where it went well
 pub follows_ok : {T E P Q : Type 0} (r : Result T E) → (P → Q) → OnOk r P → OnOk r Q

@@ -1,6 +1,4 @@
 mod Lines
-pub mod PieceLemmas
-pub mod RowLemmas
-pub mod WordRow
+pub mod Rows
 pub mod Words
 pub mod WriteLemmas

@@ -1,10 +1,8 @@
 -- The lines of a run, and those of a record that breaks a rule of pairing, one after another.
-use Rattle.report9.proofs.Words.{[], ap, append-nil, append_assoc, Appends, Appends-trans, AppendsPart, end_before, EndedExchange, Exchange}
-use Rattle.report9.proofs.Words.{inl, inr, last_time-last, length, line_of_open, line_of_state, LineByte, lines_of_run, List, Option}
-use Rattle.report9.proofs.Words.{arith, bytes_of, codes, drop, drop-cons, get_or, hex_byte, hex_bytes, None, suc, ◌<◌, ◌∙◌}
-use Rattle.report9.proofs.Words.{Global, lines_of_break, Open, Reason, Vec, WhyNo, Wire, ◌≢◌}
+use Rattle.report9.proofs.Words.{[], ap, append-nil, append_assoc, Appends, Appends-trans, AppendsPart, arith, bytes_of, codes, drop, drop-cons, end_before, EndedExchange, Exchange, get_or, Global}
+use Rattle.report9.proofs.Words.{hex_byte, hex_bytes, inl, inr, last_time-last, length, line_of_open, line_of_state, LineByte, lines_of_break, lines_of_run, List, None, Open, Option, Profile}
+use Rattle.report9.proofs.Words.{Reason, records_of, refl, slice_get, Some, State, suc, sym, Vec, WhyNo, Wire, ℕ, ◌++◌, ◌+◌, ◌-◌, ◌<◌, ◌∙◌, ◌∷◌, ◌≡◌, ◌≢◌, ◌⊎◌}
 use Rattle.report9.specs.declared.why_no.WhyNo.TheVariants as why
-use Rattle.report9.proofs.Words.{Profile, records_of, refl, slice_get, Some, State, sym, ℕ, ◌++◌, ◌+◌, ◌-◌, ◌∷◌, ◌≡◌, ◌⊎◌}
 use Rattle.report9.proofs.WriteLemmas.{first_part, part_after}
 
 -- all the lines were written but those of these exchanges and states, which are left

@@ -10,13 +10,16 @@ pub use Rattle.deck9.proofs.ModeSetLemmas.{some_any}
 pub use Rattle.deck9.specs.declared.profile.Profile.{Profile}
 pub use Rattle.deck9.specs.declared.state.State.{State}
 pub use Rattle.report9.specs.RunText.{lines_of_run}
+unfoldable pub use Rattle.report9.specs.Bytes.{text_of_block, text_of_head}
+unfoldable pub use Rattle.report9.specs.ExchangeBytes.{text_of_command_sent, text_of_exchange, text_of_records, text_of_reply_given, text_of_reply_sent, words_of}
+unfoldable pub use Rattle.report9.specs.Explanation.{line_of_exchange, text_of_knowledge, text_of_nak}
 unfoldable pub use Rattle.report9.specs.RunText.{line_of_state}
 pub use Rattle.report9.specs.WhyText.{end_before, lines_at}
 unfoldable pub use Rattle.report9.specs.WhyText.{line_if_ended, line_of_breaking, line_of_could_show, line_of_open, lines_of_break, lines_of_open}
 pub use Rattle.report9.specs.declared.why_no.EndedExchange.{EndedExchange}
 pub use Rattle.report9.specs.declared.why_no.WhyNo.{WhyNo}
-pub use Rattle.std.proofs.Common.{[], ap, append_assoc, arith, codes, drop, drop-cons, get_or, inl, inr, length, length-append, List, None, Option, refl}
-pub use Rattle.std.proofs.Common.{Global, Vec, ◌≢◌}
+pub use Rattle.std.proofs.Common.{[], ap, append_assoc, arith, Bool, codes, drop, drop-cons, get_or, if◌then◌else◌, inl, inr, length, length-append, List, map, None, Option, refl}
+pub use Rattle.std.proofs.Common.{Err, Global, Ok, OnErr, OnOk, Result, subst, take, Vec, ◌≢◌}
 pub use Rattle.std.proofs.Common.{rules, slice_get, Some, suc, sym, ℕ, ◌*◌, ◌++◌, ◌+◌, ◌-◌, ◌<◌, ◌∙◌, ◌∷◌, ◌≡◌, ◌≤◌, ◌⊎◌}
 pub use Rattle.std.proofs.KnownBytes.{Appends-trans}
 pub use Rattle.std.proofs.lemmas.List.{append-nil}

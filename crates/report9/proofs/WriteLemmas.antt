@@ -1,12 +1,10 @@
 -- A text that is written piece by piece.
-use Rattle.std.proofs.Common.{◌≡◌, ℕ, List, [], ◌++◌, Option, Result, Ok, Err, OnOk, OnErr, sym, subst, arith, length-append, ◌+◌, length, take}
-use Rattle.std.proofs.KnownBytes.{Appends-nil, Appends-trans}
+use Rattle.report9.proofs.Words.{Appends, Appends-trans, AppendsPart, arith, Err, length, length-append, List, Ok, OnErr, OnOk, Option, Result, subst, sym, take, ℕ, ◌++◌, ◌+◌, ◌≡◌}
 use Rattle.std.proofs.lemmas.Bool.{false≢true}
 use Rattle.std.proofs.lemmas.List.{take-append-le}
 use Rattle.std.proofs.Math.Seq.{take-append-add}
-use Rattle.std.specs.Io.KnownBytes.{Appends}
 use Rattle.std.specs.Result.{IsErr}
-use Rattle.report9.specs.Writing.{AppendsPart, Writes}
+use Rattle.report9.specs.Writing.{Writes}
 
 -- a first part of the bytes after those that were all written
 pub part_after : (old now new : Option (List ℕ)) (text bytes : List ℕ) → Appends old now text → AppendsPart now new bytes → AppendsPart old new (text ++ bytes)
@@ -25,10 +23,6 @@ writes (Err e) old new a whole part = part
 pub failed : {A E : Type 0} (r : Result A E) (old new : Option (List ℕ)) (a : List ℕ) → IsErr r → AppendsPart old new a → Writes a r old new
 failed (Ok x) old new a h part = absurd (false≢true h)
 failed (Err e) old new a h part = part
-
--- nothing was written, and an error that is handed on
-pub none_written : {A E : Type 0} (r : Result A E) (old new : Option (List ℕ)) (a : List ℕ) → IsErr r → new ≡ old → Writes a r old new
-none_written r old new a h same = failed r old new a h (0, omega arith, subst (λ n. Appends old n []) (sym same) (Appends-nil old))
 
 -- a first part of the first piece is one of both
 pub first_part : (old new : Option (List ℕ)) (a b : List ℕ) → AppendsPart old new a → AppendsPart old new (a ++ b)

@@ -1,16 +1,13 @@
 -- How a report on a capture ends, and a judging that keeps its exchanges.
-use Rattle.std.specs.Prelude.{◌≡◌, ◌≢◌, ◌-◌}
+use Rattle.std.specs.Prelude.{◌≡◌, ◌≢◌}
 use Rattle.capture9.specs.Rows.{HasHeader}
 use Rattle.judge9.specs.declared.judging.Judging.{Judging}
-use Rattle.judge9.specs.declared.stage.Stage.{Stage}
-use Rattle.judge9.specs.declared.stage.Stage.TheVariants as stage
 use Rattle.judge9.specs.History.{History}
 use Rattle.judge9.specs.Report.{Ending, IsEnding, Told, by_verdict}
 use Rattle.judge9.specs.Report.Ending.{counted, judged}
 use Rattle.judge9.specs.RunVerdict.{HasItsRun, judged_of}
 use Rattle.judge9.specs.Standing.{totals_of, verdict_of}
-use Rattle.judge9.specs.Working.{[], CaptureKind, Err, Exchange, IfErr, IfOk, IfSome, JudgeError, length, List, None, Ok, Option, Profile, Result, Rows, RunVerdict, Verdict, View, ℕ, ⊤}
-use Rattle.report9.specs.declared.totals.Totals.{Totals}
+use Rattle.judge9.specs.Working.{[], CaptureKind, Err, Exchange, IfErr, IfOk, IfSome, JudgeError, length, List, None, Ok, Option, Profile, Result, Rows, RunVerdict, View, ℕ, ⊤}
 use Rattle.report9.specs.declared.verdict.Extent.{Extent}
 use Rattle.report9.specs.declared.verdict.Extent.TheVariants.{FirstBreak, WholeCapture}
 use Rattle.report9.specs.declared.verdict.Scope.{Scope}

@@ -17,8 +17,3 @@ returns-clause-answers g c =
     let stands = c.in_ok-judging.ensures.stands in
     answers_of (g.R.Read.remaining c.args.reader) c.tell_verdict-verdict.result
     (rw (stands.same_scope, stands.same_profile, c.in_ok-judging.ensures.rows) at c.tell_verdict-verdict.ensures)
-
-pub returns-clause-told : goal.returns-clause-told
-returns-clause-told g c =
-    let stands = c.in_ok-judging.ensures.stands in
-    (rw (c.new-telling.ensures.0, stands.same_scope, stands.same_profile, c.in_ok-judging.ensures.rows) at c.tell_verdict-verdict.ensures).told

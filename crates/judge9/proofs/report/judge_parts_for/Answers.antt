@@ -7,11 +7,6 @@ use Rattle.judge9.proofs.Verdicts.{headed_of}
 pub returns-in_err-judging-clause-told : goal.returns-in_err-judging-clause-told
 returns-in_err-judging-clause-told g c = rw (handed c.from_residual.result c.from_residual.ensures.1) (judged_nothing c.args.view _ c.args.profile.now _ _).told
 
-pub returns-clause-told : goal.returns-clause-told
-returns-clause-told g c =
-    let stands = c.in_ok-judging.ensures.stands in
-    (rw (c.new-telling.ensures.0, stands.same_scope, stands.same_profile, c.in_ok-judging.ensures.rows) at c.tell_totals-totals.ensures).told
-
 pub returns-clause-header : goal.returns-clause-header
 returns-clause-header g c =
     let stands = c.in_ok-judging.ensures.stands in

@@ -3,10 +3,6 @@ use Rattle.judge9.proofs.report.tell_totals.Goals as goal
 use Rattle.judge9.proofs.Endings.{line_told, line_unwritten}
 use Rattle.judge9.proofs.TurnSteps.{handed}
 
-pub returns-in_err-put_totals_line : goal.returns-in_err-put_totals_line
-returns-in_err-put_totals_line g c =
-    rw (handed c.from_residual-in_err-put_totals_line.result c.from_residual-in_err-put_totals_line.ensures.1) (record { told = c.in_ok-tell_all.ensures.told; refusal = tt })
-
 pub returns-in_err-write_all : goal.returns-in_err-write_all
 returns-in_err-write_all g c =
     let line = c.as_slice.ensures.value ∙ c.in_ok-put_totals_line.ensures ∙ ap (λ l. l ++ line_of_totals c.totals-totals.result) c.clear.ensures.items in

@@ -1,5 +1,4 @@
-use Rattle.judge9.proofs.Words.{ap, Appends-nil, Ending, refl, ◌++◌, ◌∙◌}
-use Rattle.report9.specs.Lines.{line_of}
+use Rattle.judge9.proofs.Words.{ap, Appends-nil, Ending, line_of, refl, ◌++◌, ◌∙◌}
 use Rattle.judge9.proofs.report.tell_verdict.Goals as goal
 use Rattle.judge9.proofs.Endings.{line_told, line_unwritten, no_line, yes_line}
 use Rattle.judge9.proofs.TurnSteps.{handed}

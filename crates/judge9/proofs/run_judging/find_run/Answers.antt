@@ -1,11 +1,12 @@
-use Rattle.judge9.proofs.Words.{ap, refl, sym, ◌∙◌}
-use Rattle.report9.specs.declared.totals.Totals.{Totals}
+use Rattle.judge9.proofs.Words.{ap, refl, sym, Totals, ◌∙◌}
 use Rattle.judge9.proofs.run_judging.find_run.Goals as goal
-use Rattle.judge9.proofs.RunLemmas.{run_failed, run_found, run_missing, some_left}
+use Rattle.judge9.proofs.RunLemmas.{run_found, run_missing, some_left}
 use Rattle.judge9.proofs.TurnSteps.{handed}
 
 pub returns-in_err-keep_all : goal.returns-in_err-keep_all
-returns-in_err-keep_all g c = rw (handed c.from_residual.result c.from_residual.ensures.1) (run_failed c.in_err-keep_all.field-0.0 c.in_err-keep_all.ensures)
+returns-in_err-keep_all g c =
+    let (other, judged) = c.in_err-keep_all.ensures in
+    rw (handed c.from_residual.result c.from_residual.ensures.1) (record { judged = judged; run = tt; no_write = λ q. other (cc) })
 
 pub returns-in-No : goal.returns-in-No
 returns-in-No g c = run_missing c.requires.first c.in_ok-keep_all.ensures c.in-No.at c.in-No.reason (sym c.in-No.is ∙ c.verdict.ensures)

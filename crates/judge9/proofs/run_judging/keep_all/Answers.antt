@@ -1,7 +1,7 @@
-use Rattle.judge9.proofs.Words.{None, View}
+use Rattle.judge9.proofs.Words.{JudgeError, None, refl, View}
 use Rattle.judge9.proofs.run_judging.keep_all.Goals as goal
-use Rattle.judge9.proofs.Reports.{advanced, so_far-none}
-use Rattle.judge9.proofs.RunLemmas.{kept_end, kept_failed, kept_memory, kept_more, no_why, same_more, same_still}
+use Rattle.judge9.proofs.Reports.{advanced, so_far-none, untold}
+use Rattle.judge9.proofs.RunLemmas.{kept_end, kept_failed, kept_more, no_why, same_more, same_still}
 use Rattle.judge9.proofs.TurnSteps.{handed}
 
 pub events-init : goal.events-init
@@ -22,7 +22,7 @@ returns-in_err-keep-in-Exchange g c =
     let i = c.events.invariant in
     let next = rw c.in-Exchange.is at c.in_ok-next.ensures in
     rw (handed c.from_residual-in_err-keep-in-Exchange.result c.from_residual-in_err-keep-in-Exchange.ensures.1)
-    (kept_memory i.so_far i.same (next.told _ _ _ i.so_far.history i.so_far.stands) next.over (λ q. cc) (λ b is. cc))
+    (λ q. cc, untold i.so_far (next.told _ _ _ i.so_far.history i.so_far.stands) next.over (λ q. cc) (λ b is. cc) View.Verdict _ refl refl JudgeError.OutOfMemory None tt)
 
 pub events-preserved-in-Exchange : goal.events-preserved-in-Exchange
 events-preserved-in-Exchange g c =

@@ -1,6 +1,4 @@
-use Rattle.std.proofs.Common.{append_assoc, rules}
-use Rattle.std.proofs.lemmas.Result.{IfOk-equal}
-use Rattle.report9.specs.ExchangeBytes.{text_of_reply_sent}
+use Rattle.report9.proofs.Words.{append_assoc, IfOk-equal, rules, text_of_reply_sent}
 use Rattle.report9.proofs.exchange_bytes.put_reply_sent.Goals as goal
 
 pub returns : goal.returns

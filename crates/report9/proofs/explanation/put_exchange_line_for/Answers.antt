@@ -1,6 +1,4 @@
-use Rattle.std.proofs.Common.{append_assoc, rules}
-use Rattle.std.proofs.lemmas.Result.{IfOk-equal}
-use Rattle.report9.specs.Explanation.{line_of_exchange}
+use Rattle.report9.proofs.Words.{append_assoc, IfOk-equal, line_of_exchange, rules}
 use Rattle.report9.proofs.explanation.put_exchange_line_for.Goals as goal
 
 pub returns : goal.returns

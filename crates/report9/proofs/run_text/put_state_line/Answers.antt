@@ -1,4 +1,4 @@
-use Rattle.report9.proofs.Words.{IfOk-equal, append_assoc, line_of_state, rules}
+use Rattle.report9.proofs.Words.{append_assoc, IfOk-equal, line_of_state, rules}
 use Rattle.report9.proofs.run_text.put_state_line.Goals as goal
 
 pub returns : goal.returns

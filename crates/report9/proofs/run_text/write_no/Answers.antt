@@ -1,9 +1,6 @@
-use Rattle.report9.proofs.Words.{refl, ◌∙◌}
-use Rattle.report9.proofs.WriteLemmas.{none_written, writes}
+use Rattle.report9.proofs.Words.{◌∙◌}
+use Rattle.report9.proofs.WriteLemmas.{writes}
 use Rattle.report9.proofs.run_text.write_no.Goals as goal
-
-pub returns-in_err-put_no_line : goal.returns-in_err-put_no_line
-returns-in_err-put_no_line g c = none_written c.from_residual.result _ _ _ c.from_residual.ensures.0 refl
 
 pub returns : goal.returns
 returns g c =

@@ -1,4 +1,4 @@
-use Rattle.report9.proofs.Words.{drop, lines_at, records_in, ◌*◌, ◌+◌, ◌++◌, ◌-◌, ◌≡◌, ◌≤◌}
+use Rattle.report9.proofs.Words.{drop, lines_at, records_in, ◌*◌, ◌++◌, ◌+◌, ◌-◌, ◌≡◌, ◌≤◌}
 use Rattle.report9.proofs.why_text.put_lines.Given as goal
 
 -- what stands there, with the lines that are still to come, is the whole

@@ -1,7 +1,7 @@
 use Rattle.std.proofs.Common.{codes, rules}
 use Rattle.deck9.specs.Mode.{every_mode, name_of}
 use Rattle.deck9.specs.ModeSet.{has}
-use Rattle.report9.proofs.RowLemmas.{names_more}
+use Rattle.report9.proofs.Rows.{names_more}
 use Rattle.report9.proofs.exchange_bytes.modes.put_names.Goals as goal
 
 pub loop-mode-preserved : goal.loop-mode-preserved

@@ -1,6 +1,5 @@
-use Rattle.std.proofs.Common.{append_assoc, rules}
-use Rattle.std.proofs.lemmas.Result.{IfOk-equal}
-use Rattle.report9.proofs.WordRow.{next_more, row_more}
+use Rattle.report9.proofs.Words.{append_assoc, IfOk-equal, rules}
+use Rattle.report9.proofs.Rows.{next_more, row_more}
 use Rattle.report9.proofs.exchange_bytes.said.put_reported.Goals as goal
 
 pub returns : goal.returns

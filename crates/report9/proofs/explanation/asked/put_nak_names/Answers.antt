@@ -2,7 +2,7 @@ use Rattle.std.proofs.Common.{codes, List, rules, ℕ}
 use Rattle.block9.specs.declared.nak.NakBits.{NakBits}
 use Rattle.bitflags.specs.declared.traits.Flag.{Flag}
 use Rattle.deck9.specs.Status.{has_bit}
-use Rattle.report9.proofs.RowLemmas.{mapped_more}
+use Rattle.report9.proofs.Rows.{mapped_more}
 use Rattle.report9.proofs.explanation.asked.put_nak_names.Goals as goal
 
 pub loop-flag-preserved : goal.loop-flag-preserved

@@ -1,4 +1,4 @@
-use Rattle.report9.proofs.Words.{IfOk-equal, append_assoc, lines_of_break, rules}
+use Rattle.report9.proofs.Words.{append_assoc, IfOk-equal, lines_of_break, rules}
 use Rattle.report9.proofs.Lines.{no_break}
 use Rattle.report9.proofs.why_text.break_lines.put_break.Goals as goal
 

@@ -1,6 +1,24 @@
--- The names of the chosen ones of some things in a row, one after another.
-use Rattle.std.proofs.Common.{◌≡◌, ◌∙◌, ◌<◌, ◌+◌, [], ap, append_assoc, arith, Bool, drop, drop-cons, get_or, if◌then◌else◌, length, List, map, refl, suc, ℕ, ◌++◌, ◌∷◌}
+-- Words, the names of the chosen ones of some things, and the bytes of a block in a row, one after another.
+use Rattle.report9.proofs.Words.{[], ap, append_assoc, arith, Bool, codes, drop, drop-cons, get_or, hex_byte, hex_bytes, if◌then◌else◌, length, List, map, refl, suc, ℕ, ◌++◌, ◌+◌, ◌<◌, ◌∙◌, ◌∷◌}
+use Rattle.report9.proofs.Words.{◌≡◌}
 use Rattle.report9.specs.Row.{in_a_row, names_of}
+use Rattle.report9.specs.Working.{next_before}
+
+-- ---- words
+
+-- what is put before the words after some
+pub next_more : (before between : List ℕ) (words more : List (List ℕ))
+    → next_before before between (words ++ more) ≡ next_before (next_before before between words) between more
+next_more before between [] more = refl
+next_more before between (word ∷ words) more = grind arith
+
+-- some words, and then more
+pub row_more : (before between : List ℕ) (words more : List (List ℕ)) → in_a_row before between (words ++ more)
+    ≡ in_a_row before between words ++ in_a_row (next_before before between words) between more
+row_more before between [] more = refl
+row_more before between (word ∷ words) more = grind (arith, append_assoc, row_more between between words more)
+
+-- ---- the names of things
 
 -- the names that are left: that of the first thing, where it is chosen, and those of the others
 names_next : {A : Type 0} (p : A → Bool) (name : A → List ℕ) (x : A) (xs : List A) (before between : List ℕ)
@@ -33,3 +51,9 @@ pub mapped_more : {A B : Type 0} (f : A → B) (p : B → Bool) (name : B → Li
 mapped_more f p name xs i d before next between line new whole h so_far text is_next =
     rw (names-map f p name (drop (i + 1) xs))
     (names_more (λ x. p (f x)) (λ x. name (f x)) xs i d before next between line new whole h (rw (names-map f p name (drop i xs)) at so_far) text is_next)
+
+-- ---- the bytes of a block
+
+pub hex_more : (bytes more : List ℕ) → hex_bytes (codes " ") (bytes ++ more) ≡ hex_bytes (codes " ") bytes ++ hex_bytes (codes " ") more
+hex_more [] more = refl
+hex_more (byte ∷ bytes) more = ap (λ t. codes " " ++ hex_byte byte ++ t) (hex_more bytes more)
