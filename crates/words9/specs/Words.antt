@@ -269,11 +269,16 @@ top = record (new_app (codes "ninecheck")) {
 abbrev pub with_verb : RateNames → App → Verb → App
 with_verb names app verb = with_subcommand app (app_for names verb).top
 
+-- the verbs, in the order in which `help` lists them
+abbrev pub verbs : List Verb
+verbs =
+    verb.Check ∷ verb.Explain ∷ verb.Run ∷ verb.Why ∷ verb.Digest ∷ verb.Delays ∷ verb.Motion ∷ verb.Json ∷ verb.JsonCheck ∷ verb.JsonExplain ∷ verb.JsonRun
+    ∷ verb.JsonWhy ∷ verb.Clock ∷ verb.Info ∷ verb.Try ∷ verb.Touches ∷ verb.Picture ∷ verb.Page ∷ verb.ConvertSigrok ∷ verb.ConvertSaleae ∷ verb.ConvertLog
+    ∷ verb.Split ∷ []
+
 -- the program with its subcommands
 abbrev pub program : RateNames → App
-program names =
-    fold (with_verb names) top
-    (verb.Check ∷ verb.Explain ∷ verb.Run ∷ verb.Why ∷ verb.Digest ∷ verb.Delays ∷ verb.Motion ∷ verb.Json ∷ verb.JsonCheck ∷ verb.JsonExplain ∷ verb.JsonRun ∷ verb.JsonWhy ∷ verb.Clock ∷ verb.Info ∷ verb.Try ∷ verb.Touches ∷ verb.Picture ∷ verb.Page ∷ verb.ConvertSigrok ∷ verb.ConvertSaleae ∷ verb.ConvertLog ∷ verb.Split ∷ [])
+program names = fold (with_verb names) top verbs
 
 -- a report that `json` can be asked for
 abbrev pub is_asked : Text → Bool

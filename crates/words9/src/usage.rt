@@ -14,6 +14,38 @@ use std::alloc::{AllocError, Global};
 /// The program's name in its lines of help.
 const NAME: &str = "ninecheck";
 
+/// The verbs, in the order in which `help` lists them.
+const VERBS: [Verb; 22] = [
+    Verb::Check,
+    Verb::Explain,
+    Verb::Run,
+    Verb::Why,
+    Verb::Digest,
+    Verb::Delays,
+    Verb::Motion,
+    Verb::Json,
+    Verb::JsonCheck,
+    Verb::JsonExplain,
+    Verb::JsonRun,
+    Verb::JsonWhy,
+    Verb::Clock,
+    Verb::Info,
+    Verb::Try,
+    Verb::Touches,
+    Verb::Picture,
+    Verb::Page,
+    Verb::ConvertSigrok,
+    Verb::ConvertSaleae,
+    Verb::ConvertLog,
+    Verb::Split,
+];
+
+/// The names of the rates and where they stand, which is part of what `clap` is told.
+#[derive(Clone, Copy)]
+struct Names<'a> {
+    rates: &'a [&'a str],
+}
+
 /// The names of the rates.
 pub(crate) fn rate_names<'a>() -> &'a [&'a str]
     ensures { AreRateNames result }
@@ -40,28 +72,12 @@ pub(crate) fn parsed<'a>(
 fn whole<'a>(alloc: Global, rates: &'a [&'a str]) -> Result<Command<'a>, AllocError>
     ensures { IfOk result (λ c. app_of c ≡ program rates.entry) }
 {
-    let command = with_verb(alloc, above(alloc)?, Verb::Check, rates)?;
-    let command = with_verb(alloc, command, Verb::Explain, rates)?;
-    let command = with_verb(alloc, command, Verb::Run, rates)?;
-    let command = with_verb(alloc, command, Verb::Why, rates)?;
-    let command = with_verb(alloc, command, Verb::Digest, rates)?;
-    let command = with_verb(alloc, command, Verb::Delays, rates)?;
-    let command = with_verb(alloc, command, Verb::Motion, rates)?;
-    let command = with_verb(alloc, command, Verb::Json, rates)?;
-    let command = with_verb(alloc, command, Verb::JsonCheck, rates)?;
-    let command = with_verb(alloc, command, Verb::JsonExplain, rates)?;
-    let command = with_verb(alloc, command, Verb::JsonRun, rates)?;
-    let command = with_verb(alloc, command, Verb::JsonWhy, rates)?;
-    let command = with_verb(alloc, command, Verb::Clock, rates)?;
-    let command = with_verb(alloc, command, Verb::Info, rates)?;
-    let command = with_verb(alloc, command, Verb::Try, rates)?;
-    let command = with_verb(alloc, command, Verb::Touches, rates)?;
-    let command = with_verb(alloc, command, Verb::Picture, rates)?;
-    let command = with_verb(alloc, command, Verb::Page, rates)?;
-    let command = with_verb(alloc, command, Verb::ConvertSigrok, rates)?;
-    let command = with_verb(alloc, command, Verb::ConvertSaleae, rates)?;
-    let command = with_verb(alloc, command, Verb::ConvertLog, rates)?;
-    with_verb(alloc, command, Verb::Split, rates)
+    let names = Names { rates };
+    let mut command = above(alloc)?;
+    for verb in VERBS {
+        command = with_verb(alloc, command, verb, names.rates)?;
+    }
+    Ok(command)
 }
 
 /// A command with the subcommand of a verb.
