@@ -1,5 +1,5 @@
 -- The answers to one more of the terms, and what is told of them.
-use Rattle.std.proofs.Common.{[], ap, append_assoc, Err, get_or, inl, length, List, None, refl, Some, sym, take, ℕ, Option, ◌+◌, ◌++◌, ◌<◌, ◌∙◌, ◌∷◌, ◌≡◌}
+use Rattle.std.proofs.Common.{[], ap, append_assoc, Bor, Err, get_or, IfSome, inl, length, List, None, option_copied, refl, slice_get, Some, suc, sym, take, zero, ℕ, Option, ◌+◌, ◌-◌, ◌++◌, ◌<◌, ◌∙◌, ◌∷◌, ◌≡◌}
 use Rattle.std.proofs.lemmas.List.{take_more}
 use Rattle.std.specs.Io.KnownBytes.{Keeps}
 use Rattle.deck9.specs.declared.deck.Deck.{Deck}
@@ -22,6 +22,19 @@ pub one_more : (scope : Scope) (deck : Option Deck) (text : List ℕ) (all : Lis
     → i < length all → AreAnswers scope deck text (take i all) answers → a.terms ≡ get_or all i d → IsChecked scope (profile_with deck (get_or all i d)) (Some text) a.ended
     → AreAnswers scope deck text (take (i + 1) all) (answers ++ a ∷ [])
 one_more scope deck text all i d answers a lt are same is = rw (take_more all i d lt) (with_last scope deck text (take i all) answers (get_or all i d) a are same is)
+
+-- each of them answers its terms, and so does the last
+each_is : (scope : Scope) (deck : Option Deck) (text : List ℕ) (ts : List Terms) (answers : List Answer) (i : ℕ) → AreAnswers scope deck text ts answers
+    → IfSome (slice_get answers i) (λ a. IsChecked scope (profile_with deck a.terms) (Some text) a.ended)
+each_is scope deck text ts [] i are = tt
+each_is scope deck text [] (a ∷ answers) i are = absurd are
+each_is scope deck text (t ∷ ts) (a ∷ answers) zero (same, checked, are) = rw same checked
+each_is scope deck text (t ∷ ts) (a ∷ answers) (suc i) (same, checked, are) = each_is scope deck text ts answers i are
+
+pub last_checked : (scope : Scope) (deck : Option Deck) (text : List ℕ) (ts : List Terms) (answers : List Answer) (last : Option (Bor Answer)) → AreAnswers scope deck text ts answers
+    → option_copied last ≡ slice_get answers (length answers - 1) → IfSome last (λ a. IsChecked scope (profile_with deck a.now.terms) (Some text) a.now.ended)
+last_checked scope deck text ts answers None are is = tt
+last_checked scope deck text ts answers (Some a) are is = rw (sym is) at (each_is scope deck text ts answers (length answers - 1) are)
 
 keeps_same : (known : Option (List ℕ)) → Keeps known known
 keeps_same None = tt

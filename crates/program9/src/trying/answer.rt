@@ -1,5 +1,6 @@
 //! What `check` answers where a capture is asked with some terms.
-ghost use Rattle.std.specs.Prelude.{◌≡◌, ◌++◌, OnOk, codes};
+ghost use Rattle.std.specs.Prelude.{◌≡◌, ◌++◌, IfSome, Ok, OnOk, codes, true};
+ghost use Rattle.view9.specs.declared.seen.Ending.TheVariants as TheEnding;
 ghost use Rattle.program9.specs.Trying.{IsChecked, first_line_after, first_line_of_fault, first_line_of_read, first_line_of_row, is_refused, is_yes, line_of_answer, said_of};
 
 use crate::message::word_of;
@@ -33,6 +34,18 @@ impl Answer {
             Ok(Ending::Verdict(verdict)) => matches!(verdict, Verdict::Yes { .. }),
             Ok(Ending::Totals(totals)) => totals.breaks == 0,
             Err(_) => false,
+        }
+    }
+
+    /// The verdict, where it is a yes.
+    pub(crate) fn yes(&self) -> Option<Verdict>
+        ensures { IfSome result (λ verdict. (self.now.ended ≡ Ok (TheEnding.Verdict verdict)) × (is_yes self.now.ended ≡ true)) }
+    {
+        match &self.ended {
+            Ok(Ending::Verdict(verdict)) if matches!(verdict, Verdict::Yes { .. }) => Some(
+                *verdict,
+            ),
+            _ => None,
         }
     }
 

@@ -1,5 +1,7 @@
 //! A capture that is asked with all terms, one after another.
-ghost use Rattle.std.specs.Prelude.{◌≡◌, None, Some, IfOk};
+ghost use Rattle.std.specs.Prelude.{◌≡◌, ℕ, List, None, Option, Some, IfOk, IfSome};
+ghost use Rattle.deck9.specs.declared.deck.Deck.{Deck as ADeck};
+ghost use Rattle.report9.specs.declared.verdict.Scope.{Scope};
 ghost use Rattle.program9.specs.Trying.{AreAnswers, IsChecked, all_terms, profile_with};
 
 use crate::again::text_again;
@@ -55,15 +57,16 @@ impl Asking<'_> {
     {
         let mut answers = Vec::new(self.alloc);
         for terms in all {
-            let answer = self.ask::<R>(*terms);
+            let answer = self.ask::<R>(*terms, answers.last());
             answers.push(answer)?;
         }
         Ok(answers)
     }
 
-    /// Asks with these terms.
-    fn ask<R: Read + Drop>(&mut self, terms: Terms) -> Answer
-        requires { self.old.plain.deck ≡ None }
+    /// Asks with these terms, after this answer: what is a yes without hands is not judged again with them.
+    fn ask<R: Read + Drop>(&mut self, terms: Terms, before: Option<&Answer>) -> Answer
+        requires plain { self.old.plain.deck ≡ None }
+        requires before { IfSome before (λ a. IsChecked self.old.scope (profile_with self.old.with_sheet.deck a.now.terms) (Some self.old.text.now) a.now.ended) }
         ensures terms { result.terms ≡ terms }
         ensures checked { IsChecked self.old.scope (profile_with self.old.with_sheet.deck terms) (Some self.old.text.now) result.ended }
         ensures plain { self.new.plain.deck ≡ None }
@@ -71,6 +74,9 @@ impl Asking<'_> {
         ensures scope { self.new.scope ≡ self.old.scope }
         ensures text { self.new.text ≡ self.old.text }
     {
+        if let Some(yes) = yes_with_hands(before, terms) {
+            return yes;
+        }
         let (alloc, reader, scope) = (self.alloc, text_again::<R>(self.text), self.scope);
         let ended = if terms.has_sheet {
             check_with(alloc, reader, scope, &mut self.with_sheet, terms)
@@ -79,6 +85,25 @@ impl Asking<'_> {
         };
         Answer { terms, ended }
     }
+}
+
+/// The answer with hands, where the one before is a yes on the same terms without them: the same yes, since somebody who may touch the
+/// deck need not touch it.
+fn yes_with_hands(before: Option<&Answer>, terms: Terms) -> Option<Answer>
+    ensures terms { IfSome result (λ answer. answer.terms ≡ terms) }
+    ensures checked { (scope : Scope) (deck : Option ADeck) (text : Option (List ℕ))
+        → IfSome before.entry (λ a. IsChecked scope (profile_with deck a.now.terms) text a.now.ended)
+        → IfSome result (λ answer. IsChecked scope (profile_with deck terms) text answer.ended) }
+{
+    let before = before?;
+    if !terms.adds_hands_to(&before.terms) {
+        return None;
+    }
+    let yes = before.yes()?;
+    Some(Answer {
+        terms,
+        ended: Ok(Ending::Verdict(yes)),
+    })
 }
 
 /// Judges a capture as `check` does, of a deck with the rate and the hands of these terms.

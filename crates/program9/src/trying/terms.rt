@@ -1,5 +1,6 @@
 //! What a capture is asked with.
-ghost use Rattle.std.specs.Prelude.{◌≡◌, ◌++◌, OnOk};
+ghost use Rattle.std.specs.Prelude.{◌≡◌, ◌↔◌, ◌++◌, OnOk, true};
+ghost use Rattle.deck9.specs.declared.state.Hands.TheVariants as TheHands;
 ghost use Rattle.program9.specs.Trying.{words_of};
 
 use deck9::Hands;
@@ -33,6 +34,18 @@ impl Terms {
             put_text(text, " --hands")?;
         }
         Ok(())
+    }
+
+    /// Whether they are the others, but with hands where those are without.
+    pub(crate) fn adds_hands_to(&self, others: &Terms) -> bool
+        ensures { (result ≡ true) ↔ ((others.now.hands ≡ TheHands.None) × (self.now ≡ record others.now { hands = TheHands.Allowed })) }
+    {
+        match (others.hands, self.hands) {
+            (Hands::None, Hands::Allowed) => {
+                self.rate == others.rate && self.has_sheet == others.has_sheet
+            }
+            _ => false,
+        }
     }
 
     /// How many of these the answer needs: the sheet, and a hand.

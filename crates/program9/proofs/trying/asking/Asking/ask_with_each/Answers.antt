@@ -1,6 +1,11 @@
 use Rattle.std.proofs.Common.{arith, ◌∙◌}
-use Rattle.program9.proofs.Answering.{one_more}
+use Rattle.program9.proofs.Answering.{last_checked, one_more}
 use Rattle.program9.proofs.trying.asking.Asking.ask_with_each.Goals as goal
+
+pub ask-answer-requires-clause-before : goal.ask-answer-requires-clause-before
+ask-answer-requires-clause-before g c =
+    let now = c.loop-terms.invariant in
+    rw (now.scope, now.deck, now.text) (last_checked _ _ _ _ _ c.last.result now.are (rw c.deref.ensures.value at c.last.ensures.value))
 
 pub loop-terms-preserved : goal.loop-terms-preserved
 loop-terms-preserved g c =
