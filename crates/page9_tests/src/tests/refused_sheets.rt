@@ -1,6 +1,8 @@
 //! Texts that are refused, and what is said of them.
 
 use sheet9::{SheetError, read_sheet};
+use std::alloc::Global;
+use std::process::Abort;
 use std::test::Fail;
 
 /// Texts, each with its refusal's.
@@ -284,6 +286,10 @@ const REFUSED: &[(&'static [u8], &'static str)] = &[
         b"[passes.REC]\nJOG = 1",
         "[passes] \"REC\": not a list of modes, as [\"SHUTTLE\", \"JOG\"]",
     ),
+];
+
+/// The same of texts with replies.
+const REFUSED_REPLIES: &[(&'static [u8], &'static str)] = &[
     (b"replies = \"74 08\"", "\"replies\": not a table"),
     (
         b"replies = 1\n[passes]\nX = 1",
@@ -387,15 +393,29 @@ const REFUSED: &[(&'static [u8], &'static str)] = &[
     ),
 ];
 
-#[test]
-fn texts_that_are_refused(rt: HostRuntime) -> Result<(), Fail> {
-    for (text, wanted) in REFUSED {
-        let told = match read_sheet(rt.alloc(), text) {
-            Err(SheetError::Refused(refusal)) => format!(in rt.alloc(); "{refusal}")?,
+/// Reads each text of a table, and compares what is said of it.
+fn are_refused(
+    rt: &impl Abort,
+    alloc: Global,
+    table: &[(&'static [u8], &'static str)],
+) -> Result<(), Fail> {
+    for (text, wanted) in table {
+        let told = match read_sheet(alloc, text) {
+            Err(SheetError::Refused(refusal)) => format!(in alloc; "{refusal}")?,
             Err(SheetError::OutOfMemory) => return Err(Fail::from("memory")),
             Ok(_) => return Err(Fail::from(*wanted)),
         };
         assert_eq!(rt; told.as_str(), *wanted);
     }
     Ok(())
+}
+
+#[test]
+fn texts_that_are_refused(rt: HostRuntime) -> Result<(), Fail> {
+    are_refused(&rt, rt.alloc(), REFUSED)
+}
+
+#[test]
+fn texts_with_replies_that_are_refused(rt: HostRuntime) -> Result<(), Fail> {
+    are_refused(&rt, rt.alloc(), REFUSED_REPLIES)
 }
