@@ -288,7 +288,7 @@ const REFUSED: &[(&'static [u8], &'static str)] = &[
     ),
 ];
 
-/// The same of texts with replies.
+/// The same of texts with replies, and of keys with a selector of CURRENT TIME SENSE.
 const REFUSED_REPLIES: &[(&'static [u8], &'static str)] = &[
     (b"replies = \"74 08\"", "\"replies\": not a table"),
     (
