@@ -1,8 +1,8 @@
 # Compares what the program says of drawn captures with the plain deck: awk [-v fewest=yes] -f tests/lib/deck.awk -f
-# tests/judging/list.awk -f tests/judging/drawn.awk LIST RESULTS. LIST has the lines of drawing.awk. RESULTS has for each capture a line
-# `capture i`, and then for each of `check`, `check --hands`, `why`, `run` and `run --hands`, that of `why` with the words of the
-# capture, a line `- check` or the like with what the program wrote after it. With fewest=yes a run with hands has to be one of the
-# fewest moves of a hand.
+# tests/judging/list.awk -f tests/judging/touched.awk -f tests/judging/drawn.awk LIST RESULTS. LIST has the lines of drawing.awk.
+# RESULTS has for each capture a line `capture i`, and then for each of `check`, `check --hands`, `why`, `run` and `run --hands`, that
+# of `why` with the words of the capture, and of `touches` with hands alone, a line `- check` or the like with what the program wrote
+# after it. With fewest=yes a run with hands has to be one of the fewest moves of a hand.
 #
 # Written are a line for each capture that is refused, and then lines with counts.
 
@@ -34,6 +34,9 @@ END {
     line = "fewest moves of a hand:"
     for (k = 0; k <= 7; k++) line = line " " k " in " of_fewest[k] + 0 ","
     print line " sum " all_fewest + 0
+    line = "touches compared: " touches_compared + 0 ", by fields that a hand changed:"
+    for (k = 1; k <= fields; k++) line = line " " name_kept[k] " in " of_changed[field_kept[k]] + 0 ","
+    print line
     printf "moves of a hand in runs: sum %d, more than the fewest in %d runs, at most %d more\n", all_moves, not_fewest, most_more
 }
 
@@ -69,6 +72,7 @@ function end_capture(    h) {
         broken[h]++
         if (at[h] < exchanges) later++
         compare_why(at[h], verdict_of(h))
+        if (h && (said["touches"] != 1 || text["touches", 1] != verdict_of(h))) refuse("touches of a no")
     } else {
         kept[h]++
         if (said["why"] != 1 || text["why", 1] != verdict_of(h)) refuse("why of a yes")
@@ -156,6 +160,7 @@ function compare_run(run, verdict,    n, i, s, t, moves, more, least) {
     if (moves > least) not_fewest++
     if (moves - least > most_more) most_more = moves - least
     if (fewest == "yes" && moves != least) refuse("run: " moves " moves of a hand for " least)
+    compare_touches(least, verdict)
 }
 
 function copy_state(t, s,    r) {

@@ -30,6 +30,8 @@ ask() {
         "$program" run "$work/$number.csv"
         echo '- run --hands'
         "$program" run --hands "$work/$number.csv"
+        echo '- touches'
+        [ "$hands" = 0 ] || "$program" touches "$work/$number.csv"
     done 2>&1
 }
 
@@ -37,7 +39,8 @@ ask() {
 compare() {
     local results=$1
     shift
-    "$awk" "$@" -f tests/lib/deck.awk -f tests/judging/list.awk -f tests/judging/drawn.awk "$work/list" "$results"
+    "$awk" "$@" -f tests/lib/deck.awk -f tests/judging/list.awk -f tests/judging/touched.awk -f tests/judging/drawn.awk \
+        "$work/list" "$results"
 }
 
 # spoil HOW: results that are spoilt in this way.
@@ -78,8 +81,10 @@ judge 'captures without hands that are a yes' at_least 500 yes 1
 judge 'captures with hands that are a yes' at_least 500 yes 2
 compared=$(sed -n 's/^runs of a yes without hands, compared with those with hands: //p' "$work/compared")
 judge 'captures that nobody has to touch' [ "${compared:-0}" -ge 1000 ]
+touches=$(sed -n 's/^touches compared: \([0-9]*\),.*/\1/p' "$work/compared")
+judge 'touches of a hand' [ "${touches:-0}" -ge 100 ]
 
-for how in left-out added earlier shown register local says time record yes state other-run panel; do
+for how in left-out added earlier shown register local says time record yes state other-run panel kept swapped; do
     spoil "$how"
     judge "results that are wrong: $how" is_refused 1
 done

@@ -16,6 +16,8 @@
 # state          `run` has a state, without hands, that is in local where the others are not, or the other way round
 # other-run      `run --hands` has another state than `run`, where nobody has to touch the deck
 # panel          `run --hands` has the panel on where `run` has it off, or the other way round, where nobody has to touch the deck
+# kept           `touches` tells that a hand changed a field more, or one less
+# swapped        `touches` tells that local was switched the other way
 # hand           `run` has a state that wants more moves of a hand: wrong only where the fewest are wanted
 
 /^capture / {
@@ -35,7 +37,7 @@ function end_capture(    k) {
     if (number == "" || changed == 20) return
     read_capture(drawn[number])
     set_places(drawn_hands[number])
-    if (!change(begins["why"], begins["run"], begins["check"], begins["run --hands"])) return
+    if (!change(begins["why"], begins["run"], begins["check"], begins["run --hands"], begins["touches"])) return
     changed++
     for (k = 1; k <= lines; k++) if (text[k] != "") print text[k]
 }
@@ -57,8 +59,8 @@ function replace(k, from, to,    at) {
     return at
 }
 
-# change(WHY, RUN, CHECK, TOUCHED): changes the text, whose parts begin at these lines; whether it could
-function change(why, run, check, touched,    k, i, could, s, t, u) {
+# change(WHY, RUN, CHECK, TOUCHED, TOUCHES): changes the text, whose parts begin at these lines; whether it could
+function change(why, run, check, touched, touches,    k, i, could, s, t, u) {
     could = run - 3
     if (" left-out added earlier shown register local says time " ~ " " how " ")
         if (text[why] !~ /^records/) return 0
@@ -91,6 +93,13 @@ function change(why, run, check, touched,    k, i, could, s, t, u) {
     if (how == "yes") {
         if (text[check] !~ /^no/) return 0
         text[check] = "yes: records " records ", exchanges " exchanges ", open 0"
+        return 1
+    }
+    if (how == "kept" || how == "swapped") {
+        if (!hands || text[touches] !~ /^between/) return 0
+        if (how == "swapped" && replace(touches, "local: no => yes", "local: yes => no")) return 1
+        if (how == "swapped") return replace(touches, "local: yes => no", "local: no => yes")
+        if (!sub(/, [a-z]*: [^,]*$/, "", text[touches])) text[touches] = text[touches] ", aout: clear => 05:05:05:05"
         return 1
     }
     # without hands these are compared with one another alone

@@ -2,7 +2,8 @@
 # first. The list is kept sorted: for each value of local, panel and the four registers (a place, counted from 0) stand
 # the pairs of goal and shown mode. Nothing is taken to be independent of anything else.
 #
-# It is for the answers of the built program on whole captures: verdicts, what `why` names, runs and the fewest moves of a hand.
+# It is for the answers of the built program on whole captures: verdicts, what `why` names, runs, the fewest moves of a hand, and what
+# each of them changes.
 # Another plain deck, in `crates/track9_tests`, is for the calls of a tracker, which no command line reaches: all states after each
 # call, on a small day. The two share no line, so that a rule that one misreads shows in the other.
 #
