@@ -4,7 +4,7 @@ use Rattle.deck9.proofs.Words.{false, fits, HasBelieving, HasRun, inl, inr, is_r
 use Rattle.deck9.proofs.Words.{MayReply, refl, refused, Sense, sense_of, State, DeckStep, subst, sym, true, ℕ, ◌++◌, ◌+◌, ◌<◌, ◌↔◌, ◌∙◌, ◌∷◌, ◌≡◌, ◌⊎◌}
 use Rattle.deck9.proofs.Words.{Deck, Option, Profile, Rate}
 use Rattle.deck9.proofs.RunSearch.{first_drifts}
-use Rattle.deck9.proofs.Words.{false≢true, forgetting, Forgets, ForgetsNothingBeside, forgotten_beside, forgotten_if, forgotten_with, Goes, head_of, is_nak, MayGo, Nothing, if◌then◌else◌}
+use Rattle.deck9.proofs.Words.{false≢true, Forgets, ForgetsNothingBeside, forgotten_beside, forgotten_if, forgotten_with, Goes, head_of, is_nak, MayGo, Nothing, if◌then◌else◌}
 use Rattle.deck9.proofs.EffectLemmas.{forgets_none}
 use Rattle.deck9.proofs.RestLemmas.{first_does, first_goes, first_steps}
 use Rattle.deck9.proofs.ReplyLemmas.{block, no_bytes, one_byte}
@@ -72,7 +72,7 @@ first_does_so profile b e s t first does = first_passes profile e s t first (doe
 
 pub first_may : (profile : Profile) (b : Bool) (e : Exchange) (s t : State) → IsFirst profile s → MayGo profile b e s t → IsFirst profile t
 first_may profile b e s t first (d, u, drift, does, forgets) =
-    first_does profile (forgetting (forgotten_if b profile.deck e)) u t (first_does_so profile b e d u (first_drifts profile s d first drift) does) forgets
+    first_does profile (Effect.Forget (forgotten_if b profile.deck e)) u t (first_does_so profile b e d u (first_drifts profile s d first drift) does) forgets
 
 -- ---- what is forgotten besides
 

@@ -2,7 +2,7 @@
 use Rattle.tc25.proofs.DayLemmas.{some_day}
 use Rattle.deck9.proofs.Words.{arith, Becomes, between, Change, cleared, DeckStep, Does, done, Effect, effect_of, Entry, entry_of, Everything}
 use Rattle.deck9.proofs.Words.{Exchange, ignored, inl, inr, refused, Steps, ◌⊎◌}
-use Rattle.deck9.proofs.Words.{Forgets, forgetting, Forgotten, forgotten_with, IsEntry, IsState, KeepsPanel, Motion, nat_tests, Nothing, Profile, Rate, refl, Register}
+use Rattle.deck9.proofs.Words.{Forgets, Forgotten, forgotten_with, IsEntry, IsState, KeepsPanel, Motion, nat_tests, Nothing, Profile, Rate, refl, Register}
 use Rattle.deck9.proofs.Words.{SetAt, SetSomewhere, some_change, some_outcome, State, subst, sym, with_entry, with_forgotten, ◌≡◌}
 
 -- ---- effects lead from states to states
@@ -58,9 +58,8 @@ changes_between p r x g c d u t alike (e, becomes, put) forgets =
 pub does_between : (p : Profile) (f : Effect) (g : Forgotten) (c d u t : State) → c ≡ with_forgotten g c d → c.panel ≡ d.panel → Does p f c u → Forgets p g u t
     → Does p f d (between p f g d t)
 does_between p (Effect.Change r x) g c d u t alike panel does forgets = changes_between p r x g c d u t alike does forgets
-does_between p Effect.ForgetTape g c d u t alike panel does forgets = let mixed = mixed_valid p.rate g d t (does_valid p (forgetting g) u t does.0 forgets) in grind arith
-does_between p Effect.ForgetRegisters g c d u t alike panel does forgets = let mixed = mixed_valid p.rate g d t (does_valid p (forgetting g) u t does.0 forgets) in grind arith
-does_between p Effect.ForgetAll g c d u t alike panel does forgets = let mixed = mixed_valid p.rate g d t (does_valid p (forgetting g) u t does.0 forgets) in grind arith
+does_between p (Effect.Forget h) g c d u t alike panel does forgets =
+    let mixed = λ (valid : IsState p.rate u). mixed_valid p.rate g d t (does_valid p (Effect.Forget g) u t valid forgets) in grind arith
 does_between p f g c d u t alike panel does forgets = grind arith
 
 -- from the state before a step to the one after what is forgotten besides, by way of a third

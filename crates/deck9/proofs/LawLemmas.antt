@@ -2,7 +2,7 @@
 use Rattle.deck9.proofs.Words.{[], Agrees, ap, arith, Block, Bool, Command, Does, done, Drift, Effect, effect_of, Entry, Exchange, Exchanges, false, Hands, HasRun, ignored, inl}
 use Rattle.deck9.proofs.Words.{inr, IsEntry, IsRunFrom, IsState, List, may_ignore, Moves, nat_tests, refused, Register, Sense, shown_by, State, DeckStep}
 use Rattle.std.specs.Prelude.{None, true, ◌≢◌}
-use Rattle.deck9.proofs.Words.{forgetting, forgotten_with, Goes, name_of}
+use Rattle.deck9.proofs.Words.{forgotten_with, Goes, name_of}
 use Rattle.deck9.proofs.Words.{subst, sym, with_entry, ◌++◌, ◌∷◌, ◌≡◌}
 use Rattle.deck9.proofs.Words.{Deck, Option, Profile, Rate}
 use Rattle.deck9.proofs.DriftLemmas.{drift_from_pairs, pairs_from_drift}
@@ -62,7 +62,7 @@ module _ (rate : Rate) (deck : Option Deck) where
   goes_beside : (e : Exchange) (on : Bool) (s t : State) → Goes (by_hand Hands.None) e s t → (off : Bool) × Goes (by_hand Hands.Allowed) e (with_panel on s) (with_panel off t)
   goes_beside e on s t (u, exchanges, forgets) =
       let first = exchange_beside e.command e.reply on s u exchanges in
-      let more = does_beside (forgetting (forgotten_with deck e)) first.0 u t forgets in
+      let more = does_beside (Effect.Forget (forgotten_with deck e)) first.0 u t forgets in
       (more.0, (with_panel first.0 u, first.1, more.1))
 
   run_beside : (es : List Exchange) (on : Bool) (s : State) (ts : List State) → IsRunFrom (by_hand Hands.None) s es ts

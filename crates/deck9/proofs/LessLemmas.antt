@@ -1,7 +1,7 @@
 -- A deck that forgets no more and passes through no more modes has no more runs.
 use Rattle.deck9.proofs.Words.{[], arith, arrives, Block, Command, Deck, DeckStep, done, Drift, Ends, Exchange, halts, handled, HasRun, ignored, IsRunFrom, IsState, List, Move}
 use Rattle.deck9.proofs.Words.{Moves, Option, passes, Profile, refused, State, ◌∷◌}
-use Rattle.deck9.proofs.Words.{Bool, false, Forgets, ForgetsNoMore, forgotten_beside, forgotten_with, head_of, is_nak, true, if◌then◌else◌, Nothing, forgetting}
+use Rattle.deck9.proofs.Words.{Bool, false, Forgets, ForgetsNoMore, forgotten_beside, forgotten_with, head_of, is_nak, true, if◌then◌else◌, Nothing}
 use Rattle.deck9.proofs.Words.{Does, Effect, effect_of, Forgotten, ModeSet, Motion, None, Sense, sense_of, Some, unlisted_effect, ℕ}
 use Rattle.deck9.specs.declared.sense.Sense.TheVariants as sense
 use Rattle.deck9.specs.Deck.{named_beside, unless_sensed}
@@ -45,7 +45,7 @@ module _ (p : Profile) (less more : Option Deck) (forgets : ForgetsNoMore p less
       let still = drift_valid (with_deck less) s d valid drift in
       let stepped = step_valid (with_deck less) e d u still step in (
         (u, (d, (drift.0, moves_more drift.0 s d drift.1), step_more e.command e.reply d u still step), beside_more e (is_nak e.reply) u t stepped forgot),
-        runs_more es t ts (does_valid (with_deck less) (forgetting (forgotten_with less e)) u t stepped forgot) rest,
+        runs_more es t ts (does_valid (with_deck less) (Effect.Forget (forgotten_with less e)) u t stepped forgot) rest,
       )
   runs_more es s ts valid r = absurd r
 
@@ -66,7 +66,7 @@ module _ (p : Profile) (less more : Option Deck) (forgets : ForgetsNoMore p less
 -- a word that forgets no more leads to no more states, of whichever deck
 word_leads : (p : Profile) (one other : Option Deck) (less more : Forgotten) (s t : State) → IsState p.rate s → IsNoMore less more
     → Forgets (record p { deck = one }) less s t → Forgets (record p { deck = other }) more s t
-word_leads p one other less more s t valid no_more forgot = let after = does_valid p (forgetting less) s t valid in grind arith
+word_leads p one other less more s t valid no_more forgot = let after = does_valid p (Effect.Forget less) s t valid in grind arith
 
 effect_leads : (p : Profile) (one other : Option Deck) (fewer goals : Option ModeSet) (less more : Forgotten) (s t : State) → IsState p.rate s
     → DoesNoMore fewer less goals more
@@ -94,4 +94,4 @@ says_no_more p less more says = record {
 pub goals_no_more : (p : Profile) (goals : ModeSet) (beside all : Forgotten) (s u t : State) → IsState p.rate s → IsNoMore Motion all → IsNoMore beside all
     → Does p (Effect.KeepOr goals) s u → Forgets p beside u t → Forgets p all s t
 goals_no_more p goals beside all s u t valid motion no_more does forgot =
-    let after = does_valid p (forgetting beside) u t (does_valid p (Effect.KeepOr goals) s u valid does) forgot in grind arith
+    let after = does_valid p (Effect.Forget beside) u t (does_valid p (Effect.KeepOr goals) s u valid does) forgot in grind arith

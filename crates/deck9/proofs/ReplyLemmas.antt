@@ -6,6 +6,7 @@ use Rattle.deck9.proofs.Words.{[], All, All-cons, All-nil, arith, At, Becomes, B
 use Rattle.deck9.proofs.Words.{fits, Hands, is_nak, is_reply_time_valid, IsEntry, IsRightReply, IsState, length, List, nat_tests, None, Recall, refl}
 use Rattle.deck9.proofs.Words.{RegAudioIn, RegAudioOut, RegIn, RegOut, Reset, SetAt, SetSomewhere, Shows, ShowsStatus, slice_get_past, State, status_of, DeckStep, Tells, true}
 use Rattle.deck9.proofs.Words.{with_entry, ℕ, ◌-◌, ◌/◌, ◌<◌, ◌∷◌, ◌≡◌, ◌≤◌}
+use Rattle.deck9.proofs.EffectLemmas.{forgets_none}
 use Rattle.deck9.proofs.ShowsLemmas.{shows_asked}
 
 -- ---- what a command does
@@ -17,17 +18,13 @@ some_entry rate Reset old sets = (Clear, refl)
 some_entry rate Recall old sets = (Clear, tt)
 some_entry rate c old sets = (_, refl)
 
-keeps : (h : Hands) (s : State) → KeepsPanel h s s
-keeps Hands.None s = refl
-keeps Hands.Allowed s = tt
-
 some_effect : (profile : Profile) (f : Effect) (s : State) → ((r : Register) (t : ℕ) → f ≡ Effect.Change r (SetAt t) → t < day profile.rate)
     → IsState profile.rate s → (t : State) × Does profile f s t
 some_effect profile (Effect.Go g) s sets valid = (record s { goal = g }, refl)
 some_effect profile (Effect.Change r c) s sets valid =
     let new = some_entry profile.rate c (entry_of r s) (λ t same. sets r t (ap (Effect.Change r) same)) in (with_entry r new.0 s, (new.0, new.1, refl))
 some_effect profile (Effect.Panel on) s sets valid = (switched profile.hands on s, refl)
-some_effect profile Effect.ForgetAll s sets valid = (s, (valid, keeps profile.hands s))
+some_effect profile (Effect.Forget g) s sets valid = (s, forgets_none profile g s valid)
 some_effect profile f s sets valid = (s, grind arith)
 
 -- ---- what a reply shows

@@ -2,7 +2,7 @@
 use Rattle.deck9.proofs.Words.{[], arith, Does, Effect, effect_of, Entry, entry_of, Exchange, HasRun, IsEntry, IsFirst}
 use Rattle.deck9.proofs.Words.{IsRunFrom, IsState, List, nat_tests, State, DeckStep, ◌++◌, ◌∷◌}
 use Rattle.deck9.proofs.Words.{before_shift, Bool, MayBeOn, moved_entry, Next, next_frame, Prev, prev_frame, Profile, Rate}
-use Rattle.deck9.proofs.Words.{Steps, forgetting, Forgotten, forgotten_with, Goes}
+use Rattle.deck9.proofs.Words.{Steps, Forgotten, forgotten_with, Goes}
 use Rattle.deck9.proofs.EffectLemmas.{does_valid, put_panel, put_valid}
 use Rattle.deck9.proofs.RunSearch.{before_all, first_drifts}
 
@@ -12,7 +12,7 @@ pub step_valid : (profile : Profile) (e : Exchange) (s t : State) → IsState pr
 step_valid profile e s t valid step = let does = does_valid profile (effect_of profile.deck e.command) s t valid in grind arith
 
 pub steps_valid : (profile : Profile) (e : Exchange) (s t : State) → IsState profile.rate s → Steps profile e s t → IsState profile.rate t
-steps_valid profile e s t valid (u, step, forgets) = does_valid profile (forgetting (forgotten_with profile.deck e)) u t (step_valid profile e s u valid step) forgets
+steps_valid profile e s t valid (u, step, forgets) = does_valid profile (Effect.Forget (forgotten_with profile.deck e)) u t (step_valid profile e s u valid step) forgets
 
 -- the states that stand for all before a step
 pub same_valid : (rate : Rate) (g : Forgotten) (t : State) (on : Bool) → IsState rate t → IsState rate (before_all g on t)
@@ -40,7 +40,7 @@ first_steps profile e s t first step = let does = first_does profile (effect_of 
 -- nor does an exchange
 pub first_goes : (profile : Profile) (e : Exchange) (s t : State) → IsFirst profile s → Goes profile e s t → IsFirst profile t
 first_goes profile e s t first (u, (d, drift, step), forgets) =
-    first_does profile (forgetting (forgotten_with profile.deck e)) u t (first_steps profile e d u (first_drifts profile s d first drift) step) forgets
+    first_does profile (Effect.Forget (forgotten_with profile.deck e)) u t (first_steps profile e d u (first_drifts profile s d first drift) step) forgets
 
 -- ---- runs
 

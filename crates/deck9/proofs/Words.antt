@@ -7,7 +7,7 @@ pub use Rattle.block9.specs.declared.command.Command.{Command}
 pub use Rattle.block9.specs.declared.exchange.Exchange.{Exchange}
 pub use Rattle.deck9.specs.Contradict.{behind_first, CanPass, forgotten_if, HasBelieving, IsBelievingFrom, MayDo, MayGo}
 pub use Rattle.deck9.specs.Drift.{arrives, ComesToShow, Drift, DriftsTo, halts, handled, Move, Moves, PairReaches, passes}
-pub use Rattle.deck9.specs.Effect.{Becomes, Does, effect_of, forgetting, KeepsPanel, listed_effect, moved_entry, switched, unlisted_effect, with_forgotten}
+pub use Rattle.deck9.specs.Effect.{Becomes, Does, effect_of, Forgets, KeepsPanel, listed_effect, moved_entry, switched, unlisted_effect, with_forgotten}
 pub use Rattle.deck9.specs.Laws.{AreAnswered, ForgetsNoMore, ForgetsNothingBeside, IsRightReply, MayReply, SetsInDay, ShowJust}
 pub use Rattle.deck9.specs.Local.{is_of_goal_or_register, may_ignore}
 pub use Rattle.deck9.specs.Mode.{every_mode, index_of, is_mode, is_one_of, on_the_way}
@@ -17,7 +17,7 @@ pub use Rattle.deck9.specs.Run.{Ends, HasRun, IsRun, IsRunFrom, last_state}
 pub use Rattle.deck9.specs.Shows.{Agrees, sense_of, Shows, shown_by, ShowsStatus, Tells}
 pub use Rattle.deck9.specs.State.{entry_of, IsEntry, IsFirst, IsState, MayBeOn, with_entry}
 pub use Rattle.deck9.specs.Status.{datum, may_show, status_of}
-pub use Rattle.deck9.specs.Step.{AreReached, DeckStep, done, Exchanges, Forgets, forgotten_with, Goes, ignored, refused}
+pub use Rattle.deck9.specs.Step.{AreReached, DeckStep, done, Exchanges, forgotten_with, Goes, ignored, refused}
 pub use Rattle.deck9.specs.Working.{before_forgetting, before_shift, Begins, between, cleared, DriftsAndSteps, PassesOne, PassesTo, some_change, some_outcome, Steps, StepsFromSome}
 pub use Rattle.deck9.specs.declared.effect.Change.{Change}
 pub use Rattle.deck9.specs.declared.effect.Change.TheVariants.{Next, Prev, Recall, Reset, SetAt, SetSomewhere}

@@ -9,9 +9,9 @@ use Rattle.deck9.specs.declared.profile.Profile.{Profile}
 use Rattle.deck9.specs.declared.state.State.{State}
 use Rattle.deck9.specs.Deck.{forgotten_beside}
 use Rattle.deck9.specs.Drift.{Drift}
-use Rattle.deck9.specs.Effect.{Does, effect_of}
+use Rattle.deck9.specs.Effect.{Does, effect_of, Forgets}
 use Rattle.deck9.specs.State.{IsFirst}
-use Rattle.deck9.specs.Step.{DeckStep, Forgets, forgotten_with}
+use Rattle.deck9.specs.Step.{DeckStep, forgotten_with}
 
 -- what a command may do to a state where its reply is not known: nothing, or its effect
 abbrev pub CanPass : Profile → Command → State → State → Type 0

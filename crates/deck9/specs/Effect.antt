@@ -24,14 +24,6 @@ use Rattle.deck9.specs.Deck.{forgotten_at, goals_at}
 use Rattle.deck9.specs.ModeSet.{bit_of, has, modes}
 use Rattle.deck9.specs.State.{IsEntry, IsState, entry_of, with_entry}
 
--- the effect that makes anything of what is forgotten
-abbrev pub forgetting : Forgotten → Effect
-forgetting forgotten.Nothing = effect.Nothing
-forgetting forgotten.Motion = effect.ForgetMotion
-forgetting forgotten.Registers = effect.ForgetRegisters
-forgetting forgotten.Tape = effect.ForgetTape
-forgetting forgotten.Everything = effect.ForgetAll
-
 -- the effect of each listed command; one that is not listed has its effect by `effect_of`
 abbrev pub listed_effect : Command → Effect
 listed_effect command.Stop = effect.Go mode.Stop
@@ -94,7 +86,7 @@ listed_effect (command.Unlisted head) = effect.Nothing
 -- the effect of a command that is not listed, with the goals and with what is forgotten that are named for it
 abbrev pub unlisted_effect : Option ModeSet → Forgotten → Effect
 unlisted_effect (Some goals) forgotten = effect.KeepOr goals
-unlisted_effect None forgotten = forgetting forgotten
+unlisted_effect None forgotten = effect.Forget forgotten
 
 -- the effect of each command: one that is not listed may lead to the goals that are named for it, or makes the deck forget
 abbrev pub effect_of : Option Deck → Command → Effect
@@ -131,6 +123,14 @@ abbrev pub KeepsPanel : Hands → State → State → Type 0
 KeepsPanel hands.None s t = t.panel ≡ s.panel
 KeepsPanel hands.Allowed s t = ⊤
 
+-- what may become of a state where this is forgotten
+abbrev pub Forgets : Profile → Forgotten → State → State → Type 0
+Forgets p forgotten.Nothing s t = t ≡ s
+Forgets p forgotten.Motion s t = t ≡ record s { goal = t.goal; shown = t.shown }
+Forgets p forgotten.Registers s t = IsState p.rate t × (t.goal ≡ s.goal) × (t.shown ≡ s.shown) × (t.local ≡ s.local) × (t.panel ≡ s.panel)
+Forgets p forgotten.Tape s t = IsState p.rate t × (t.local ≡ s.local) × (t.panel ≡ s.panel)
+Forgets p forgotten.Everything s t = IsState p.rate t × KeepsPanel p.hands s t
+
 -- what may become of a state; fields that are not named stay
 abbrev pub Does : Profile → Effect → State → State → Type 0
 Does p effect.Nothing s t = t ≡ s
@@ -138,10 +138,7 @@ Does p (effect.Go g) s t = t ≡ record s { goal = g }
 Does p (effect.KeepOr goals) s t = KeepsOrGoes goals s t
 Does p (effect.Change r c) s t = (e : Entry) × Becomes p.rate c (entry_of r s) e × (t ≡ with_entry r e s)
 Does p (effect.Panel on) s t = t ≡ switched p.hands on s
-Does p effect.ForgetMotion s t = t ≡ record s { goal = t.goal; shown = t.shown }
-Does p effect.ForgetTape s t = IsState p.rate t × (t.local ≡ s.local) × (t.panel ≡ s.panel)
-Does p effect.ForgetRegisters s t = IsState p.rate t × (t.goal ≡ s.goal) × (t.shown ≡ s.shown) × (t.local ≡ s.local) × (t.panel ≡ s.panel)
-Does p effect.ForgetAll s t = IsState p.rate t × KeepsPanel p.hands s t
+Does p (effect.Forget f) s t = Forgets p f s t
 
 -- the state t, with what is forgotten as it is in o
 abbrev pub with_forgotten : Forgotten → State → State → State

@@ -20,11 +20,10 @@ use Rattle.deck9.specs.declared.state.Register.{Register}
 use Rattle.deck9.specs.declared.state.State.{State}
 use Rattle.deck9.specs.Contradict.{behind_first}
 use Rattle.deck9.specs.Deck.{forgotten_at, forgotten_beside, goals_at, named_beside, way_of}
-use Rattle.deck9.specs.Effect.{Does, effect_of, listed_effect}
+use Rattle.deck9.specs.Effect.{Does, effect_of, Forgets, listed_effect}
 use Rattle.deck9.specs.ModeSet.{has}
 use Rattle.deck9.specs.State.{IsState}
 use Rattle.deck9.specs.Status.{may_show}
-use Rattle.deck9.specs.Step.{Forgets}
 
 -- where the command sets a register at a time, that is a time of the day
 abbrev pub SetsInDay : Rate → Command → Type 0

@@ -12,10 +12,7 @@ is_of_goal_or_register (effect.KeepOr goals) = true
 is_of_goal_or_register (effect.Change r c) = true
 is_of_goal_or_register effect.Nothing = false
 is_of_goal_or_register (effect.Panel on) = false
-is_of_goal_or_register effect.ForgetMotion = false
-is_of_goal_or_register effect.ForgetTape = false
-is_of_goal_or_register effect.ForgetRegisters = false
-is_of_goal_or_register effect.ForgetAll = false
+is_of_goal_or_register (effect.Forget f) = false
 
 -- a deck in LOCAL may ignore it: the listed transport and preset commands that have an effect, and no other
 abbrev pub may_ignore : Command → Bool

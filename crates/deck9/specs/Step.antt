@@ -12,7 +12,7 @@ use Rattle.deck9.specs.declared.profile.Profile.{Profile}
 use Rattle.deck9.specs.declared.state.State.{State}
 use Rattle.deck9.specs.Deck.{forgotten_beside}
 use Rattle.deck9.specs.Drift.{Drift}
-use Rattle.deck9.specs.Effect.{Does, effect_of, forgetting}
+use Rattle.deck9.specs.Effect.{Does, effect_of, Forgets}
 use Rattle.deck9.specs.Local.{may_ignore}
 use Rattle.deck9.specs.Shows.{Shows}
 
@@ -32,10 +32,6 @@ Exchanges p command reply s t = (d : State) × Drift p s d × DeckStep p command
 -- what the deck forgets with an exchange beside the effect of its command: nothing where that got a NAK
 abbrev pub forgotten_with : Option Deck → Exchange → Forgotten
 forgotten_with deck e = if is_nak e.reply then forgotten.Nothing else forgotten_beside deck e.command (head_of e.block)
-
--- the deck forgets this
-abbrev pub Forgets : Profile → Forgotten → State → State → Type 0
-Forgets p f s t = Does p (forgetting f) s t
 
 -- what an exchange does: the deck drifts, does the step, and forgets what its sheet names besides
 abbrev pub Goes : Profile → Exchange → State → State → Type 0

@@ -16,10 +16,10 @@ use Rattle.deck9.specs.declared.profile.Profile.{Profile}
 use Rattle.deck9.specs.declared.state.State.{State}
 use Rattle.deck9.specs.Deck.{way_of}
 use Rattle.deck9.specs.Drift.{KeepsRest, PairReaches}
-use Rattle.deck9.specs.Effect.{moved_entry, switched, with_forgotten}
+use Rattle.deck9.specs.Effect.{Forgets, moved_entry, switched, with_forgotten}
 use Rattle.deck9.specs.ModeSet.{has}
 use Rattle.deck9.specs.State.{IsFirst, IsState, entry_of, with_entry}
-use Rattle.deck9.specs.Step.{DeckStep, Forgets, forgotten_with, Goes}
+use Rattle.deck9.specs.Step.{DeckStep, forgotten_with, Goes}
 
 -- what an exchange does, without the drift before it: the step, and what is forgotten besides
 abbrev pub Steps : Profile → Exchange → State → State → Type 0
@@ -75,9 +75,7 @@ abbrev pub some_outcome : Profile → Effect → State → State
 some_outcome p (effect.Go g) s = record s { goal = g }
 some_outcome p (effect.Change r c) s = with_entry r (some_change p.rate c (entry_of r s)) s
 some_outcome p (effect.Panel on) s = switched p.hands on s
-some_outcome p effect.ForgetTape s = cleared s
-some_outcome p effect.ForgetRegisters s = cleared s
-some_outcome p effect.ForgetAll s = cleared s
+some_outcome p (effect.Forget f) s = with_forgotten f (cleared s) s
 some_outcome p _ s = s
 
 -- a state between the step and what is forgotten after it: where there is one, this is one, or the state before the step is

@@ -68,7 +68,7 @@ impl Deck {
         match command {
             Command::Unlisted { head } => match Deck::goals_at(deck, *head) {
                 Some(goals) => Effect::KeepOr(goals),
-                None => Effect::forgetting(Deck::forgotten_at(deck, *head)),
+                None => Effect::Forget(Deck::forgotten_at(deck, *head)),
             },
             _ => Effect::listed(command),
         }

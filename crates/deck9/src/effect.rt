@@ -26,7 +26,7 @@ pub enum Change {
 /// What a command does to the deck. The effects are a choice of these rules.
 #[derive(Clone, Copy, Debug, PartialEq, Eq)]
 pub enum Effect {
-    /// Nothing.
+    /// Nothing, as a listed command does it; one that is not listed forgets nothing by `Forget`.
     Nothing,
     /// This becomes the commanded mode; the shown mode follows by drift.
     Go(Mode),
@@ -36,32 +36,13 @@ pub enum Effect {
     Change(Register, Change),
     /// The panel is switched on or off, where hands are allowed.
     Panel(bool),
-    /// Commanded mode and shown mode become anything.
-    ForgetMotion,
-    /// Commanded mode, shown mode and registers become anything.
-    ForgetTape,
-    /// The registers become anything.
-    ForgetRegisters,
-    /// Everything becomes anything, the panel only where hands are allowed.
-    ForgetAll,
+    /// This becomes anything: the effect of each command that is not listed and that no goals are named for.
+    Forget(Forgotten),
 }
 
 impl Effect {
     ghost use Rattle.std.specs.Prelude.{◌≡◌};
-    ghost use Rattle.deck9.specs.Effect.{forgetting, listed_effect};
-
-    /// The effect that forgets this.
-    pub(crate) fn forgetting(forgotten: Forgotten) -> Effect
-        ensures { result ≡ forgetting forgotten }
-    {
-        match forgotten {
-            Forgotten::Nothing => Effect::Nothing,
-            Forgotten::Motion => Effect::ForgetMotion,
-            Forgotten::Registers => Effect::ForgetRegisters,
-            Forgotten::Tape => Effect::ForgetTape,
-            Forgotten::Everything => Effect::ForgetAll,
-        }
-    }
+    ghost use Rattle.deck9.specs.Effect.{listed_effect};
 
     /// What a listed command does where it is acknowledged; nothing where the command is not listed.
     #[inline(always)] // it is asked of every exchange

@@ -76,7 +76,7 @@ fn some_outcome(profile: &Profile, effect: &Effect, state: &State) -> State
     ensures { result ≡ some_outcome profile.now effect.now state.now }
 {
     match effect {
-        Effect::Nothing | Effect::KeepOr(_) | Effect::ForgetMotion => *state,
+        Effect::Nothing | Effect::KeepOr(_) => *state,
         Effect::Go(goal) => state.with_goal(*goal),
         Effect::Change(register, change) => {
             let entry = some_change(profile.rate, change, state.entry(*register));
@@ -86,7 +86,7 @@ fn some_outcome(profile: &Profile, effect: &Effect, state: &State) -> State
             Hands::None => *state,
             Hands::Allowed => state.with_panel(*on),
         },
-        Effect::ForgetTape | Effect::ForgetRegisters | Effect::ForgetAll => cleared(state),
+        Effect::Forget(forgotten) => state.with_forgotten(*forgotten, &cleared(state)),
     }
 }
 

@@ -15,8 +15,8 @@ ghost use Rattle.deck9.specs.Mode.{index_of, is_mode};
 ghost use Rattle.deck9.specs.Run.{Ends, HasRun};
 ghost use Rattle.deck9.specs.State.{IsFirst, IsState};
 ghost use Rattle.deck9.specs.Status.{may_show};
-ghost use Rattle.deck9.specs.Effect.{Does};
-ghost use Rattle.deck9.specs.Step.{AreReached, DeckStep, Forgets, Goes};
+ghost use Rattle.deck9.specs.Effect.{Does, Forgets};
+ghost use Rattle.deck9.specs.Step.{AreReached, DeckStep, Goes};
 
 use crate::deck::Forgotten;
 use crate::effect::Effect;

@@ -12,11 +12,6 @@ pub fn may_ignore(command: &Command) -> bool
 {
     match Effect::listed(command) {
         Effect::Go(_) | Effect::KeepOr(_) | Effect::Change(_, _) => true,
-        Effect::Nothing
-        | Effect::Panel(_)
-        | Effect::ForgetMotion
-        | Effect::ForgetTape
-        | Effect::ForgetRegisters
-        | Effect::ForgetAll => false,
+        Effect::Nothing | Effect::Panel(_) | Effect::Forget(_) => false,
     }
 }

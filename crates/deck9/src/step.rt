@@ -1,8 +1,8 @@
 //! What a step, and what is forgotten after it, do to one state.
 ghost use Rattle.std.specs.Prelude.{◌≡◌, ◌↔◌, IsTrue};
 ghost use Rattle.deck9.specs.Working.{Steps};
-ghost use Rattle.deck9.specs.Effect.{Becomes, Does, KeepsOrGoes, KeepsPanel};
-ghost use Rattle.deck9.specs.Step.{DeckStep, Forgets, forgotten_with};
+ghost use Rattle.deck9.specs.Effect.{Becomes, Does, Forgets, KeepsOrGoes, KeepsPanel};
+ghost use Rattle.deck9.specs.Step.{DeckStep, forgotten_with};
 
 use crate::deck::Forgotten;
 use crate::effect::{Change, Effect};
@@ -47,9 +47,9 @@ fn steps_and_forgets(
     ensures { IsTrue result ↔ (DeckStep profile.now exchange.now.command exchange.now.reply before.now between.now
         × Forgets profile.now (forgotten_with profile.now.deck exchange.now) between.now after.now) }
 {
-    let forgetting = Effect::forgetting(profile.forgotten_with(exchange));
+    let forgotten = profile.forgotten_with(exchange);
     let steps = steps_alone(profile, exchange, before, between);
-    steps && does(profile, &forgetting, between, after)
+    steps && forgets(profile, forgotten, between, after)
 }
 
 /// Whether the step of an exchange alone can take the deck from a state to another.
@@ -70,7 +70,6 @@ fn steps_alone(profile: &Profile, exchange: &Exchange, before: &State, after: &S
 fn does(profile: &Profile, effect: &Effect, before: &State, after: &State) -> bool
     ensures { IsTrue result ↔ Does profile.now effect.now before.now after.now }
 {
-    let rate = profile.rate;
     match effect {
         Effect::Nothing => after.is(before),
         Effect::Go(goal) => after.is(&before.with_goal(*goal)),
@@ -80,12 +79,23 @@ fn does(profile: &Profile, effect: &Effect, before: &State, after: &State) -> bo
             Hands::None => after.is(before),
             Hands::Allowed => after.is(&before.with_panel(*on)),
         },
-        Effect::ForgetMotion => after.is(&before.with_goal(after.goal).with_shown(after.shown)),
-        Effect::ForgetTape => {
+        Effect::Forget(forgotten) => forgets(profile, *forgotten, before, after),
+    }
+}
+
+/// Whether what is forgotten can take the deck from a state to another.
+fn forgets(profile: &Profile, forgotten: Forgotten, before: &State, after: &State) -> bool
+    ensures { IsTrue result ↔ Forgets profile.now forgotten before.now after.now }
+{
+    let rate = profile.rate;
+    match forgotten {
+        Forgotten::Nothing => after.is(before),
+        Forgotten::Motion => after.is(&before.with_goal(after.goal).with_shown(after.shown)),
+        Forgotten::Registers => after.is_of(rate) && before.keeps_all_but_registers(after),
+        Forgotten::Tape => {
             after.is_of(rate) && after.local == before.local && after.panel == before.panel
         }
-        Effect::ForgetRegisters => after.is_of(rate) && before.keeps_all_but_registers(after),
-        Effect::ForgetAll => after.is_of(rate) && keeps_panel(profile.hands, before, after),
+        Forgotten::Everything => after.is_of(rate) && keeps_panel(profile.hands, before, after),
     }
 }
 

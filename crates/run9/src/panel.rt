@@ -26,7 +26,7 @@ fn switch_of(profile: &Profile, exchange: &Exchange) -> Option<Switch> {
     match Deck::effect(deck, &exchange.command) {
         Effect::Panel(true) => Some(Switch::On),
         Effect::Panel(false) => Some(Switch::Off),
-        Effect::ForgetAll => Some(Switch::Free),
+        Effect::Forget(Forgotten::Everything) => Some(Switch::Free),
         _ => None,
     }
 }

@@ -19,7 +19,7 @@ use Rattle.deck9.proofs.LessLemmas.{no_more_ends}
 use Rattle.deck9.specs.Deck.{forgotten_beside, unless_sensed}
 use Rattle.deck9.specs.Run.{Ends}
 use Rattle.deck9.specs.declared.state.State.{State}
-use Rattle.deck9.specs.Step.{Forgets}
+use Rattle.deck9.specs.Effect.{Forgets}
 use Rattle.deck9.specs.Shows.{sense_of}
 use Rattle.deck9.specs.declared.deck.Forgotten.TheVariants.{Nothing}
 use Rattle.deck9.specs.declared.sense.Sense.{Sense}

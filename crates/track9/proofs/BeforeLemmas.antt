@@ -10,8 +10,8 @@ use Rattle.track9.proofs.Words.{no_entries, no_states, None, on_halves, Option, 
 use Rattle.track9.proofs.Words.{refl, refused, RegAudioIn, RegAudioOut, RegIn, Register, RegOut, rules, RunsTo, same_fact}
 use Rattle.track9.proofs.Words.{shown_with, Shows, Some, some_entry, some_mode, some_pair, State, States, DeckStep, Stop, subst, sym, true, true_from_ne_false, halves_of, way}
 use Rattle.track9.proofs.Words.{any_panel, AreWhole, KeepsOrGoes, KeepsPanel, panel_before, panel_switched, Profile, profile_of, Rate, rate_for, with_wanted, with_entry, ◌||◌, ◌↔◌, ◌∙◌, ◌≡◌, ◌⊎◌}
+use Rattle.deck9.specs.declared.deck.Forgotten.TheVariants as forgotten
 use Rattle.deck9.specs.declared.effect.Effect.TheVariants as effect
-use Rattle.deck9.specs.declared.mode.Mode.TheVariants as mode
 use Rattle.deck9.specs.declared.state.Hands.TheVariants as hands
 use Rattle.std.specs.FinSet as set
 use Rattle.track9.specs.Working.Pattern.{any_tape}
@@ -96,20 +96,20 @@ wanted_exactly p (effect.Panel on) t d after before = by p.hands
     by hands.Allowed = cond_both (same_fact t.panel on) (Some (record (just_state t) { panel = None })) None (λ o. FitsSome o d ↔ (t ≡ record d { panel = on }))
         (λ e. (λ f. let same = sym ((same_facts t.panel on).0 e) in search (rules, same_state, just_mode), λ same. rw same (search (rules, mode_just))))
         (λ e. (λ f. absurd f, λ same. absurd (false≢true (sym e ∙ (same_facts t.panel on).1 (rw same refl)))))
-wanted_exactly p effect.ForgetMotion t d after before = (
+wanted_exactly p (effect.Forget forgotten.Motion) t d after before = (
   λ f. same_state t (record d { goal = t.goal; shown = t.shown }) refl refl f.ins f.outs f.ains f.aouts f.local f.panel,
   λ same. grind (arith, all_has),
 )
-wanted_exactly p effect.ForgetTape t d after before = (
+wanted_exactly p (effect.Forget forgotten.Tape) t d after before = (
   λ f. (after, sym f.local, sym f.panel),
   λ (valid, local, panel). rw (local, panel)
       (search (rules, all_has)),
 )
-wanted_exactly p effect.ForgetRegisters t d after before = (
+wanted_exactly p (effect.Forget forgotten.Registers) t d after before = (
   λ f. (after, sym (just_mode t.goal d.goal f.goal), sym (just_mode t.shown d.shown f.shown), sym f.local, sym f.panel),
   λ (valid, goal, shown, local, panel). rw (goal, shown, local, panel) (search (rules, mode_just)),
 )
-wanted_exactly p effect.ForgetAll t d after before = by p.hands
+wanted_exactly p (effect.Forget forgotten.Everything) t d after before = by p.hands
   where
     by : (h : Hands) → Fits (any_panel h (record (any_tape (just_state t)) { local = None })) d ↔ (IsState p.rate t × KeepsPanel h d t)
     by h = grind arith
@@ -139,7 +139,7 @@ wanted_state p (effect.Panel on) t valid = by p.hands
     by hands.None = (t, valid, fits_self t)
     by hands.Allowed = cond_both (same_fact t.panel on) (Some (record (just_state t) { panel = None })) None (λ o. IfSome o (IsPattern p.rate))
         (λ e. (t, valid, search (rules, mode_just))) (λ e. tt)
-wanted_state p effect.ForgetAll t valid = by p.hands
+wanted_state p (effect.Forget forgotten.Everything) t valid = by p.hands
   where
     by : (h : Hands) → IsPattern p.rate (any_panel h (record (any_tape (just_state t)) { local = None }))
     by hands.None = (t, valid, search (rules, all_has))

@@ -1,6 +1,6 @@
 -- What becomes of the states of a part, and so what leads from all states with one value of the panel to others: each
 -- effect, and complete exchanges where nobody touches the panel.
-use Rattle.track9.proofs.Words.{all_has, all_pairs, Deck, modes, motion_forgotten}
+use Rattle.track9.proofs.Words.{all_has, all_pairs, Deck, Everything, Forgets, Forgotten, halves_forgotten, modes, Motion, motion_forgotten, Nothing, Profile, Registers, registers_forgotten, Tape}
 use Rattle.track9.proofs.Words.{agreeing, Agrees, all_forgotten, all_or_none, all_states, Allows, and_from, and_parts, ap, AreSet, Becomes, Block, Bool}
 use Rattle.track9.proofs.Words.{both, Change, changed_entries, changed_part, Command, cond_both, counted, Does, DoesOrNot, Drift, drift_from_pairs, drifted}
 use Rattle.track9.proofs.Words.{drifted_part, drifted_with, Effect, effect_of, Entries, entries_of, entry_of, false, false≢true, forgotten_part, all_shown, gone}
@@ -8,17 +8,18 @@ use Rattle.track9.proofs.Words.{either, gone_pairs, gone_part, kept_or_gone, kep
 use Rattle.track9.proofs.Words.{inr, InHalves, is_as_wanted, part_remains, is_mode, is_mode-same, is_nak, LeadsOn, List, map_halves, masked, masked_part, Mode, mode_self, ModeSet}
 use Rattle.track9.proofs.Words.{no_states, None, Option, or-true, or_cases, Part, Presets, presets_after, put_settled}
 use Rattle.track9.proofs.Words.{refl, refused, RegAudioIn, RegAudioOut, RegIn, Register, RegistersSet, RegOut, reported_part, Sense, sense_of, sensed_part, shown_by, is_own, set_where, settled}
-use Rattle.track9.proofs.Words.{shown_with, ShowsStatus, Some, some_entry, some_mode, some_pair, halves_remain, State, Status, status_of, status_part, DeckStep, Stop, subst, sym, Taken, Tells, time_of, true}
+use Rattle.track9.proofs.Words.{shown_with, ShowsStatus, Some, some_entry, some_mode, some_pair, halves_remain, State, Status, status_of, status_part, DeckStep, subst, sym, Taken, Tells, time_of, true}
 use Rattle.track9.proofs.Words.{halves_changed, halves_drifted, halves_gone, halves_kept_or_gone, halves_sensed, halves_status, HalvesBelow, HalvesFew, Halves, HalvesWhole, where_remains, Whole, with_command, with_entries, with_entry}
 use Rattle.track9.proofs.Words.{Rate, rate_in, rate_of, untouched, with_pairs, ℕ, ◌&&◌, ◌||◌, ◌↔◌, ◌∙◌, ◌≡◌, ◌⊎◌}
 use Rattle.deck9.specs.declared.effect.Effect.TheVariants as effect
 use Rattle.deck9.specs.declared.sense.Sense.TheVariants as sense
+use Rattle.deck9.proofs.EffectLemmas.{does_valid}
 use Rattle.track9.proofs.EntryLemmas.{allowed_some, drifted_from, drifted_to, entry_from, entry_stays, entry_to, goes_from, goes_to, pair_by_goal, pairs_have, pairs_some}
 use Rattle.track9.proofs.EntryLemmas.{set_exactly, some_allowed, tells_exactly}
-use Rattle.track9.proofs.PartLemmas.{a_state, all_exactly, any_entries, Below, drift_below, drift_some, drift_whole, each_register, every_state, few_agreeing, few_all_states}
+use Rattle.track9.proofs.PartLemmas.{a_state, all_exactly, any_entries, Below, drift_below, drift_some, drift_whole, each_register, few_agreeing, few_all_states}
 use Rattle.track9.proofs.PartLemmas.{few_changed_part, few_counted, few_no_states, few_pairs, few_put, few_set, few_settled, few_halves, FewIn, in_none, in_pairs, mechanics}
 use Rattle.track9.proofs.PartLemmas.{not_live, pairs_registers, put, put_in, read_put, settled_exactly, take_out, halves_live, halves_state, whole_all, whole_drift, whole_in}
-use Rattle.track9.proofs.PartLemmas.{drifted_all, each_put, of_rate, OfRate, PartBelow, halves_rate, whole_none, whole_pairs, whole_put, whole_settled, whole_halves}
+use Rattle.track9.proofs.PartLemmas.{all_drifted_pairs, drifted_all, each_put, of_rate, OfRate, PartBelow, halves_rate, whole_none, whole_pairs, whole_put, whole_settled, whole_halves}
 use Rattle.std.proofs.Common.{arith}
 
 -- ---- part by part
@@ -152,13 +153,6 @@ live_kept goals p = by (part_remains p) refl
 pub halves_live_kept : (goals : ModeSet) (h : Halves) → halves_remain (halves_kept_or_gone goals h) ≡ halves_remain h
 halves_live_kept goals h = rw (live_kept goals h.remote, live_kept goals h.local) refl
 
--- and so does what forgets goal and shown mode
-live_moved : (p : Part) → part_remains (where_remains (with_pairs all_pairs) p) ≡ part_remains p
-live_moved p = grind arith
-
-pub halves_live_moved : (h : Halves) → halves_remain (motion_forgotten h) ≡ halves_remain h
-halves_live_moved h = rw (live_moved h.remote, live_moved h.local) refl
-
 -- the states with this goal, and those that may stay as they are
 goal_leads : (rate : Rate) (Goes : State → State → Type 0) (may_stay : Bool → Bool) (goal : Mode) (p : Part)
     → ((s t : State) → Goes s t ↔ ((t ≡ record s { goal = goal }) ⊎ ((may_stay s.local ≡ true) × (t ≡ s))))
@@ -227,9 +221,6 @@ abbrev pub part_effect : Bool → Effect → Bool → Part → Part
 part_effect may_stay (effect.Go g) l p = gone_part (l || may_stay) g p
 part_effect may_stay (effect.KeepOr goals) l p = kept_or_gone_part goals p
 part_effect may_stay (effect.Change r c) l p = kept_if l (changed_part (l || may_stay) r c p)
-part_effect may_stay effect.ForgetMotion l p = with_pairs all_pairs p
-part_effect may_stay effect.ForgetTape l p = all_states (rate_of p)
-part_effect may_stay effect.ForgetRegisters l p = forgotten_part p
 part_effect may_stay _ l p = p
 
 -- entries keep their rate
@@ -246,7 +237,7 @@ put_rate rate r es p old same = each_put (λ q es. es.rate ≡ rate) r es p old 
 abbrev pub is_by_part : Effect → Bool
 is_by_part effect.Nothing = false
 is_by_part (effect.Panel on) = false
-is_by_part effect.ForgetAll = false
+is_by_part (effect.Forget g) = false
 is_by_part _ = true
 
 kept_few : (l : Bool) (n : Presets) (p : Part) → FewIn n p → FewIn n (kept_if l p)
@@ -302,62 +293,17 @@ part_leads deck rate m (effect.Change r c) p by whole live below =
       whole = changed_whole rate m r c p whole live below;
       few = λ l n few. kept_few l (counted (effect.Change r c) n) (changed_part (l || m) r c p) (few_changed_part (l || m) r c n p below few);
     }
-part_leads deck rate m effect.ForgetMotion p by whole live below = record {
-  from = λ t i.
-      let w = a_state rate p t.local t.panel whole live in
-      let s : State = record t { goal = w.0.goal; shown = w.0.shown } in
-      (s, in_pairs p p.pairs t w.0.goal w.0.shown (pairs_registers p all_pairs t i) w.1.pair, refl, refl, inl refl);
-  to = λ s t i d. elim d [
-    | inl e ↦ subst (InPart (with_pairs all_pairs p)) (sym e) (in_pairs p all_pairs s t.goal t.shown i.registers (any_pair t.goal t.shown))
-    | inr w ↦ absurd (false≢true w.0)
-  ];
-  whole = λ l. whole_pairs rate all_pairs p whole (sym live);
-  few = λ l n few. few_pairs n all_pairs p few;
-}
-part_leads deck rate m effect.ForgetTape p by whole live below =
-    subst (λ other. PartLeads rate (DoesOrNot deck rate m effect.ForgetTape) (λ n. n) p (λ l. all_states other)) (sym (whole RegIn).1) (record {
-      from = λ t i. let w = a_state rate p t.local t.panel whole live in (w.0, w.1, w.2, w.3, inl ((every_state rate t).0 i, sym w.2, sym w.3));
-      to = λ s t i d. elim d [ inl e ↦ (every_state rate t).1 e.0 | inr w ↦ absurd (false≢true w.0) ];
-      whole = λ l. whole_all rate;
-      few = λ l n few. few_all_states rate n;
-    })
-part_leads deck rate m effect.ForgetRegisters p by whole live below =
-    subst (λ other. PartLeads rate (DoesOrNot deck rate m effect.ForgetRegisters) (λ n. n) p (λ l. with_pairs p.pairs (all_states other))) (sym (whole RegIn).1) (record {
-      from = λ t i.
-          let w = a_state rate p t.local t.panel whole live in
-          let s : State = record w.0 { goal = t.goal; shown = t.shown } in
-          (s, in_pairs p p.pairs w.0 t.goal t.shown w.1.registers i.pair, w.2, w.3, inl (((any_entries rate p.pairs t).0 i).0, refl, refl, sym w.2, sym w.3));
-      to = λ s t i d. elim d [ inl e ↦ (any_entries rate p.pairs t).1 (e.0, rw (e.1, e.2) i.pair) | inr w ↦ absurd (false≢true w.0) ];
-      whole = λ l. whole_pairs rate p.pairs (all_states rate) (whole_all rate) (live ∙ sym (whole_all rate RegIn).0);
-      few = λ l n few. few_pairs n p.pairs (all_states rate) (few_all_states rate n);
-    })
 part_leads deck rate m _ p by whole live below = absurd (false≢true by)
 
--- where nobody touches the panel no effect changes it, and none but the one that forgets all changes local
-pub does_keep : (deck : Option Deck) (rate : Rate) (may_stay : Bool) (e : Effect) (s t : State) → DoesOrNot deck rate may_stay e s t → (t.panel ≡ s.panel) × ((e ≡ effect.ForgetAll) ⊎ (t.local ≡ s.local))
-does_keep deck rate may_stay e s t h = grind arith
+-- where nobody touches the panel no such effect changes it or local
+does_keep : (deck : Option Deck) (rate : Rate) (may_stay : Bool) (e : Effect) (s t : State) → is_by_part e ≡ true → DoesOrNot deck rate may_stay e s t → (t.panel ≡ s.panel) × (t.local ≡ s.local)
+does_keep deck rate may_stay e s t by h = grind arith
 
 pub has_effect : (deck : Option Deck) (rate : Rate) (may_stay : Bool) (e : Effect) (h : Halves) → is_by_part e ≡ true → HalvesWhole rate h → ((l : Bool) → Below e (in_local h l))
     → HasEffect deck rate may_stay e h (map_halves (λ l. where_remains (part_effect may_stay e l)) h)
-has_effect deck rate m e h by whole below = leads rate (DoesOrNot deck rate m e) (counted e) (record { local = local; panel = λ s t d. (does_keep deck rate m e s t d).0 }) (part_effect m e) h
-    whole
+has_effect deck rate m e h by whole below = leads rate (DoesOrNot deck rate m e) (counted e)
+    (record { local = λ s t d. (does_keep deck rate m e s t by d).1; panel = λ s t d. (does_keep deck rate m e s t by d).0 }) (part_effect m e) h whole
     (λ l n few. few_counted e n (in_local h l) (below l) few) (λ l live. part_leads deck rate m e (in_local h l) by (whole_in rate h whole l) live (below l))
-  where
-    local : (s t : State) → DoesOrNot deck rate m e s t → t.local ≡ s.local
-    local s t d = elim (does_keep deck rate m e s t d).1 [ inl all ↦ absurd (false≢true (sym (ap is_by_part all) ∙ by)) | inr same ↦ same ]
-
-pub has_forgotten_all : (deck : Option Deck) (rate : Rate) (may_stay : Bool) (h : Halves) → HalvesWhole rate h → HasEffect deck rate may_stay effect.ForgetAll h (all_forgotten h)
-has_forgotten_all deck rate m h whole = subst (λ other. HasEffect deck rate m effect.ForgetAll h (if halves_remain h then all_or_none other true else h))
-    (sym (halves_rate rate h whole)) (record {
-      reached = λ pn. (
-        λ t i. cond_both (halves_remain h) (all_or_none rate true) h (λ g. InHalves pn g t → (s : State) × InHalves pn h s × DoesOrNot deck rate m effect.ForgetAll s t)
-            (λ live i. let w = halves_state rate h pn whole live in (w.0, w.1, inl (((all_exactly rate true t).0 i.1).1, i.0 ∙ sym w.1.0)))
-            (λ dead i. absurd (false≢true (sym dead ∙ halves_live h t i.1))) i,
-        λ s t i does. elim does [ inl d ↦ (d.1 ∙ i.0, rw (halves_live h s i.1) ((all_exactly rate true t).1 (refl, d.0))) | inr w ↦ absurd (false≢true w.0) ],
-      );
-      whole = cond_both (halves_remain h) (all_or_none rate true) h (HalvesWhole rate) (λ live. whole_halves rate true) (λ dead. whole);
-      few = λ n few. cond_both (halves_remain h) (all_or_none rate true) h (HalvesFew n) (λ live. few_halves rate n true) (λ dead. few);
-    })
 
 -- ---- a drift after what becomes of the registers
 
@@ -389,29 +335,12 @@ changed_is : (may_stay : Bool) (r : Register) (c : Change) (h : Halves)
     → halves_changed may_stay r c h ≡ map_halves (λ l. where_remains (part_effect may_stay (effect.Change r c) l)) h
 changed_is may_stay r c h = grind arith
 
--- what becomes of the registers, and then a drift
-pub after_effect : (deck : Option Deck) (rate : Rate) (may_stay : Bool) (e : Effect) (h : Halves) → is_by_part e ≡ true
-    → ((l : Bool) (p : Part) → drifted_part deck (part_effect may_stay e l p) ≡ part_effect may_stay e l (drifted_part deck p)) → HalvesWhole rate h
-    → ((l : Bool) → Below e (in_local (halves_drifted deck h) l)) → HasEffect deck rate may_stay e (halves_drifted deck h)
-    (halves_drifted deck (map_halves (λ l. where_remains (part_effect may_stay e l)) h))
-after_effect deck rate m e h by same whole below = rw (drift_halves deck (part_effect m e) h same) (has_effect deck rate m e (halves_drifted deck h) by (drift_whole deck rate h whole) below)
-
+-- what becomes of a register, and then a drift
 pub after_change : (deck : Option Deck) (rate : Rate) (may_stay : Bool) (r : Register) (c : Change) (h : Halves) → HalvesWhole rate h → HalvesBelow h
     → HasEffect deck rate may_stay (effect.Change r c) (halves_drifted deck h) (halves_drifted deck (halves_changed may_stay r c h))
-after_change deck rate m r c h whole below = subst (λ g. HasEffect deck rate m (effect.Change r c) (halves_drifted deck h) (halves_drifted deck g)) (sym (changed_is m r c h))
-    (after_effect deck rate m (effect.Change r c) h refl (λ l p. drift_kept deck l (changed_part (l || m) r c p) ∙ ap (kept_if l) (drift_put deck r (changed_entries (l || m) c) p)) whole (drift_below deck h below))
-
-pub after_all : (deck : Option Deck) (rate : Rate) (may_stay : Bool) (h : Halves) → HalvesWhole rate h → HasEffect deck rate may_stay effect.ForgetAll (halves_drifted deck h) (halves_drifted deck (all_forgotten h))
-after_all deck rate m h whole = subst (HasEffect deck rate m effect.ForgetAll (halves_drifted deck h))
-    (sym (by (halves_remain h) ∙ ap (λ (b : Bool). if b then all_or_none (rate_in h) true else halves_drifted deck h)
-    (sym same))) (has_forgotten_all deck rate m (halves_drifted deck h) (drift_whole deck rate h whole))
-  where
-    same : halves_remain (halves_drifted deck h) ≡ halves_remain h
-    same = ap (λ b. b || part_remains (drifted_part deck h.local)) (drift_some deck h.remote.pairs) ∙ ap (λ b. part_remains h.remote || b) (drift_some deck h.local.pairs)
-
-    by : (b : Bool) → halves_drifted deck (if b then all_or_none (rate_in h) true else h) ≡ (if b then all_or_none (rate_in h) true else halves_drifted deck h)
-    by true = drifted_all deck (rate_in h) true
-    by false = refl
+after_change deck rate m r c h whole below = subst (HasEffect deck rate m (effect.Change r c) (halves_drifted deck h)) (sym (ap (halves_drifted deck) (changed_is m r c h)
+    ∙ drift_halves deck (part_effect m (effect.Change r c)) h (λ l p. drift_kept deck l (changed_part (l || m) r c p) ∙ ap (kept_if l) (drift_put deck r (changed_entries (l || m) c) p))))
+    (has_effect deck rate m (effect.Change r c) (halves_drifted deck h) refl (drift_whole deck rate h whole) (drift_below deck h below))
 
 -- ---- one after another
 
@@ -447,6 +376,85 @@ pub after_drift : (deck : Option Deck) (rate : Rate) (may_stay : Bool) (e : Effe
 after_drift deck rate m e h there back same whole = leads_as rate (λ s t. t ≡ s) (DoesOrNot deck rate m e) (λ n. n) (counted e) (halves_drifted deck h) (halves_drifted deck h)
     (λ s t e. inl (there s t e)) (λ s t i d. elim d [ inl does ↦ back s t does | inr (may, stays, e) ↦ e ]) same
     (leads_same rate (halves_drifted deck h) (drift_whole deck rate h whole))
+
+-- ---- what is forgotten
+
+forget_motion : (deck : Option Deck) (rate : Rate) (h : Halves) → HalvesWhole rate h → LeadsOn rate (Forgets (untouched deck rate) Motion) (λ n. n) h (motion_forgotten h)
+forget_motion deck rate h whole = leads rate (Forgets (untouched deck rate) Motion) (λ n. n) (record { local = λ s t e. rw e refl; panel = λ s t e. rw e refl }) (λ l. with_pairs all_pairs) h whole
+    (λ l n few. few) (λ l live. let p = in_local h l in let wide = whole_in rate h whole l in record {
+      from = λ t i.
+          let w = a_state rate p t.local t.panel wide live in
+          (record t { goal = w.0.goal; shown = w.0.shown }, in_pairs p p.pairs t w.0.goal w.0.shown (pairs_registers p all_pairs t i) w.1.pair, refl, refl, refl);
+      to = λ s t i e. subst (InPart (with_pairs all_pairs p)) (sym e) (in_pairs p all_pairs s t.goal t.shown i.registers (any_pair t.goal t.shown));
+      whole = λ l. whole_pairs rate all_pairs p wide (sym live);
+      few = λ l n few. few_pairs n all_pairs p few;
+    })
+
+forget_registers : (deck : Option Deck) (rate : Rate) (h : Halves) → HalvesWhole rate h → LeadsOn rate (Forgets (untouched deck rate) Registers) (λ n. n) h (registers_forgotten h)
+forget_registers deck rate h whole = leads rate (Forgets (untouched deck rate) Registers) (λ n. n) (record { local = λ s t f. f.3; panel = λ s t f. f.4 }) (λ l. forgotten_part) h whole
+    (λ l n few. few) (λ l live. let p = in_local h l in let wide = whole_in rate h whole l in
+    subst (λ other. PartLeads rate (Forgets (untouched deck rate) Registers) (λ n. n) p (λ l. with_pairs p.pairs (all_states other))) (sym (wide RegIn).1) (record {
+      from = λ t i.
+          let w = a_state rate p t.local t.panel wide live in
+          let s : State = record w.0 { goal = t.goal; shown = t.shown } in
+          (s, in_pairs p p.pairs w.0 t.goal t.shown w.1.registers i.pair, w.2, w.3, (((any_entries rate p.pairs t).0 i).0, refl, refl, sym w.2, sym w.3));
+      to = λ s t i f. (any_entries rate p.pairs t).1 (f.0, rw (f.1, f.2) i.pair);
+      whole = λ l. whole_pairs rate p.pairs (all_states rate) (whole_all rate) (live ∙ sym (whole_all rate RegIn).0);
+      few = λ l n few. few_pairs n p.pairs (all_states rate) (few_all_states rate n);
+    }))
+
+-- the registers first, and then goal and shown mode
+tape_exactly : (p : Profile) (s t : State) → ((d : State) × Forgets p Registers s d × Forgets p Motion d t) ↔ Forgets p Tape s t
+tape_exactly p s t = (
+  λ (d, registers, motion). let valid = does_valid p (effect.Forget Motion) d t registers.0 motion in grind arith,
+  λ tape. (record t { goal = s.goal; shown = s.shown }, (λ r. let valid = tape.0 r in grind arith, refl, refl, tape.1, tape.2), refl),
+)
+
+forget_all : (deck : Option Deck) (rate : Rate) (h : Halves) → HalvesWhole rate h → LeadsOn rate (Forgets (untouched deck rate) Everything) (λ n. n) h (all_forgotten h)
+forget_all deck rate h whole = subst (λ other. LeadsOn rate (Forgets (untouched deck rate) Everything) (λ n. n) h (if halves_remain h then all_or_none other true else h))
+    (sym (halves_rate rate h whole)) (record {
+      reached = λ pn. (
+        λ t i. cond_both (halves_remain h) (all_or_none rate true) h (λ g. InHalves pn g t → (s : State) × InHalves pn h s × Forgets (untouched deck rate) Everything s t)
+            (λ live i. let w = halves_state rate h pn whole live in (w.0, w.1, (((all_exactly rate true t).0 i.1).1, i.0 ∙ sym w.1.0)))
+            (λ dead i. absurd (false≢true (sym dead ∙ halves_live h t i.1))) i,
+        λ s t i f. (f.1 ∙ i.0, rw (halves_live h s i.1) ((all_exactly rate true t).1 (refl, f.0))),
+      );
+      whole = cond_both (halves_remain h) (all_or_none rate true) h (HalvesWhole rate) (λ live. whole_halves rate true) (λ dead. whole);
+      few = λ n few. cond_both (halves_remain h) (all_or_none rate true) h (HalvesFew n) (λ live. few_halves rate n true) (λ dead. few);
+    })
+
+pub halves_forget : (deck : Option Deck) (rate : Rate) (g : Forgotten) (h : Halves) → HalvesWhole rate h → LeadsOn rate (Forgets (untouched deck rate) g) (λ n. n) h (halves_forgotten g h)
+halves_forget deck rate Nothing h whole = leads_same rate h whole
+halves_forget deck rate Motion h whole = forget_motion deck rate h whole
+halves_forget deck rate Registers h whole = forget_registers deck rate h whole
+halves_forget deck rate Tape h whole = let p = untouched deck rate in let first = forget_registers deck rate h whole in
+    leads_as rate (λ s t. (d : State) × Forgets p Registers s d × Forgets p Motion d t) (Forgets p Tape) (λ n. n) (λ n. n) h (halves_forgotten Tape h)
+    (λ s t. (tape_exactly p s t).0) (λ s t i. (tape_exactly p s t).1) (λ n. refl)
+    (leads_then rate (Forgets p Registers) (Forgets p Motion) (λ n. n) (λ n. n) h (registers_forgotten h) (halves_forgotten Tape h) first (forget_motion deck rate (registers_forgotten h) first.whole))
+halves_forget deck rate Everything h whole = forget_all deck rate h whole
+
+-- it is the same before a drift as after it
+drift_forgotten : (deck : Option Deck) (g : Forgotten) (h : Halves) → halves_drifted deck (halves_forgotten g h) ≡ halves_forgotten g (halves_drifted deck h)
+drift_forgotten deck Nothing h = refl
+drift_forgotten deck Motion h = drift_halves deck (λ l. with_pairs all_pairs) h (λ l p. rw (all_drifted_pairs deck) refl)
+drift_forgotten deck Registers h = drift_halves deck (λ l. forgotten_part) h (λ l p. refl)
+drift_forgotten deck Tape h = drift_halves deck (λ l. with_pairs all_pairs) (registers_forgotten h) (λ l p. rw (all_drifted_pairs deck) refl)
+    ∙ ap motion_forgotten (drift_halves deck (λ l. forgotten_part) h (λ l p. refl))
+drift_forgotten deck Everything h = by (halves_remain h) ∙ ap (λ (b : Bool). if b then all_or_none (rate_in h) true else halves_drifted deck h) (sym same)
+  where
+    same : halves_remain (halves_drifted deck h) ≡ halves_remain h
+    same = ap (λ b. b || part_remains (drifted_part deck h.local)) (drift_some deck h.remote.pairs) ∙ ap (λ b. part_remains h.remote || b) (drift_some deck h.local.pairs)
+
+    by : (b : Bool) → halves_drifted deck (if b then all_or_none (rate_in h) true else h) ≡ (if b then all_or_none (rate_in h) true else halves_drifted deck h)
+    by true = drifted_all deck (rate_in h) true
+    by false = refl
+
+pub after_forgotten : (deck : Option Deck) (rate : Rate) (may_stay : Bool) (g : Forgotten) (h : Halves) → HalvesWhole rate h
+    → HasEffect deck rate may_stay (effect.Forget g) (halves_drifted deck h) (halves_drifted deck (halves_forgotten g h))
+after_forgotten deck rate m g h whole = subst (HasEffect deck rate m (effect.Forget g) (halves_drifted deck h)) (sym (drift_forgotten deck g h))
+    (leads_as rate (Forgets (untouched deck rate) g) (DoesOrNot deck rate m (effect.Forget g)) (λ n. n) (counted (effect.Forget g)) (halves_drifted deck h)
+    (halves_forgotten g (halves_drifted deck h)) (λ s t f. inl f) (λ s t i d. elim d [ inl f ↦ f | inr w ↦ absurd (false≢true w.0) ]) (λ n. refl)
+    (halves_forget deck rate g (halves_drifted deck h) (drift_whole deck rate h whole)))
 
 -- ---- a register's time
 

@@ -1,13 +1,12 @@
 -- What is forgotten of a set of states.
-use Rattle.track9.proofs.Words.{AllLeadOn, ap, AreBelow, AreForgotten, AreReached, AreWhole, Deck, DoesOrNot, Everything, first_states, Forgets, Forgotten, Halves, halves_forgotten, halves_of}
-use Rattle.track9.proofs.Words.{Hands, hands_of, HalvesWhole, if◌then◌else◌, inl, InHalves, LeadsOn, Motion, Nothing, Option, Possible, Presets, Profile, profile_of, Rate, rate_for, rate_in, refl}
+use Rattle.track9.proofs.Words.{AllLeadOn, ap, AreBelow, AreForgotten, AreReached, AreWhole, Deck, Everything, first_states, Forgets, Forgotten, Halves, halves_forgotten, halves_of}
+use Rattle.track9.proofs.Words.{Hands, hands_of, HalvesWhole, if◌then◌else◌, InHalves, LeadsOn, Motion, Nothing, Option, Possible, Presets, Profile, profile_of, Rate, rate_for, rate_in, refl}
 use Rattle.track9.proofs.Words.{Registers, Some, State, States, states_remain, subst, sym, Tape, true, untouched, ◌≡◌, ◌≢◌}
 use Rattle.track9.proofs.Words.{AreTracked, Bool, Exchange, Exchanges, false, forgotten_beside, forgotten_with, Goes, head_of, IsState, Passes, ◌↔◌}
 use Rattle.deck9.specs.Contradict.{MayGo}
-use Rattle.deck9.specs.Effect.{forgetting}
 use Rattle.deck9.specs.declared.effect.Effect.TheVariants as effect
 use Rattle.deck9.specs.declared.state.Hands.TheVariants as hands
-use Rattle.track9.proofs.EffectLemmas.{has_effect, has_forgotten_all, leads_as, leads_same}
+use Rattle.track9.proofs.EffectLemmas.{halves_forget}
 use Rattle.deck9.proofs.EffectLemmas.{does_valid, forgets_none}
 use Rattle.track9.proofs.KnownLemmas.{whole_at_rate}
 use Rattle.track9.proofs.PanelLemmas.{deck_of, leads_forgotten, leads_off, panel_off, touched}
@@ -15,20 +14,6 @@ use Rattle.track9.proofs.Words.{HasState, InPart, IsForgottenFromNone, MayForget
 use Rattle.deck9.specs.Effect.{with_forgotten}
 use Rattle.track9.proofs.PartLemmas.{both_few, by_panel, each_register, halves_rate, not_live, of_halves, possible_state, to_halves}
 use Rattle.std.proofs.Common.{arith}
-
--- ---- with one value of the panel
-
-forgets_alone : (deck : Option Deck) (rate : Rate) (g : Forgotten) (h k : Halves) → LeadsOn rate (DoesOrNot deck rate false (forgetting g)) (λ n. n) h k
-    → LeadsOn rate (Forgets (untouched deck rate) g) (λ n. n) h k
-forgets_alone deck rate g h k leads = leads_as rate (DoesOrNot deck rate false (forgetting g)) (Forgets (untouched deck rate) g) (λ n. n) (λ n. n) h k
-    (λ s t d. grind arith) (λ s t i d. inl d) (λ n. refl) leads
-
-pub halves_forget : (deck : Option Deck) (rate : Rate) (g : Forgotten) (h : Halves) → HalvesWhole rate h → LeadsOn rate (Forgets (untouched deck rate) g) (λ n. n) h (halves_forgotten g h)
-halves_forget deck rate Nothing h whole = leads_same rate h whole
-halves_forget deck rate Motion h whole = forgets_alone deck rate Motion h _ (has_effect deck rate false effect.ForgetMotion h refl whole (λ l. tt))
-halves_forget deck rate Registers h whole = forgets_alone deck rate Registers h _ (has_effect deck rate false effect.ForgetRegisters h refl whole (λ l. tt))
-halves_forget deck rate Tape h whole = forgets_alone deck rate Tape h _ (has_effect deck rate false effect.ForgetTape h refl whole (λ l. tt))
-halves_forget deck rate Everything h whole = forgets_alone deck rate Everything h _ (has_forgotten_all deck rate false h whole)
 
 -- ---- with both
 
@@ -170,7 +155,7 @@ like_possible v g s t but has there =
 -- no time outside the day is forgotten into
 pub day_forgets : (v : States) (g : Forgotten) (t : State) → AreWhole (rate_for v) v → AreBelow v → (IsState (rate_for v) t → ⊥) → IsForgottenFromNone v g t
 day_forgets v g t whole below outside deck (s, there, forgets) =
-    outside (does_valid (profile_of deck v) (forgetting g) s t (possible_state (rate_for v) v s whole below there) forgets)
+    outside (does_valid (profile_of deck v) (effect.Forget g) s t (possible_state (rate_for v) v s whole below there) forgets)
 
 -- ---- a state before an exchange
 

@@ -1,5 +1,5 @@
 -- All states: complete exchanges, and commands whose reply is not known, also where hands are allowed on the panel.
-use Rattle.track9.proofs.Words.{Deck}
+use Rattle.track9.proofs.Words.{Everything, Deck}
 use Rattle.track9.proofs.Words.{[], after_panel, all_drifted, all_or_none, AllLeadOn, ap, AreBelow, AreFew, AreReached, AreWhole, BelowDay, Block, Bool}
 use Rattle.track9.proofs.Words.{CanPass, Command, cond_both, counted, counts_after, Does, DoesOrNot, done, Drift, drift_from_pairs, DriftsAndGoes, Effect, effect_of, effect_taken, either_panel, entries_of}
 use Rattle.track9.proofs.Words.{false, false≢true, first_states, Follows, FollowsDrift, Hands, hands_by, hands_of, has, HasEffect, if◌then◌else◌}
@@ -338,7 +338,7 @@ passed_panel deck c on v is whole below = let keeps = by on in record {
           (few_halves (rate_for v) n (remains_with_panel_on v)),
     )
 
-pub follows_forget : (deck : Option Deck) (c : Command) (reply : Option Block) (v : States) → effect_taken deck c reply ≡ effect.ForgetAll → hands_of v ≡ hands.Allowed → AreWhole (rate_for v) v
+pub follows_forget : (deck : Option Deck) (c : Command) (reply : Option Block) (v : States) → effect_taken deck c reply ≡ effect.Forget Everything → hands_of v ≡ hands.Allowed → AreWhole (rate_for v) v
     → AreBelow v
     → Follows (touched deck (rate_for v)) c reply v (if states_remain v then first_states (rate_for v) hands.Allowed else v)
 follows_forget deck c None v is allowed whole below = leads_forgotten deck (DriftsAndGoes (StepOrPass c None) (touched deck (rate_for v))) (counts_after c None) v allowed whole
@@ -349,6 +349,6 @@ follows_forget deck c None v is allowed whole below = leads_forgotten deck (Drif
           (subst (λ e. Does (touched deck (rate_for v)) e d t) is does).0
     ])
     (λ n. command_counts deck c n ∙ ap (λ e. counted e n) is)
-follows_forget deck c (Some reply) v was allowed whole below = let w = wide_step deck (rate_for v) c reply effect.ForgetAll was refl in
+follows_forget deck c (Some reply) v was allowed whole below = let w = wide_step deck (rate_for v) c reply (effect.Forget Everything) was refl in
     leads_forgotten deck (DriftsAndGoes (StepOrPass c (Some reply)) (touched deck (rate_for v))) (counts_after c (Some reply)) v allowed whole
     (λ s t valid. (s, ([], refl), (w.0 s t).1 (valid, tt))) (λ s t i goes. ((w.0 goes.0 t).0 goes.2).0) (λ n. w.1 n refl)

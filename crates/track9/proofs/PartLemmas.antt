@@ -171,11 +171,8 @@ full w =
     let inside : bit_and 0x3FF (bit_and w 0x3FF) ≡ bit_and w 0x3FF = and_comm 0x3FF (bit_and w 0x3FF) ∙ and_assoc 0x3FF w 0x3FF in
     grind (arith, inside, or_add_and 0x3FF (bit_and w 0x3FF))
 
-all_drifted_pairs : (deck : Option Deck) → drifted deck all_pairs ≡ all_pairs
+pub all_drifted_pairs : (deck : Option Deck) → drifted deck all_pairs ≡ all_pairs
 all_drifted_pairs deck = simp full
-
-pub drifted_all_states : (deck : Option Deck) (rate : Rate) → drifted_part deck (all_states rate) ≡ all_states rate
-drifted_all_states deck rate = rw (all_drifted_pairs deck) refl
 
 pub drifted_all : (deck : Option Deck) (rate : Rate) (b : Bool) → halves_drifted deck (all_or_none rate b) ≡ all_or_none rate b
 drifted_all deck rate true = rw (all_drifted_pairs deck) refl

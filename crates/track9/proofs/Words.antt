@@ -52,7 +52,7 @@ pub use Rattle.track9.specs.Working.Parts.{part_remains, masked_part, no_states,
 pub use Rattle.track9.specs.Working.Parts.{with_pairs}
 pub use Rattle.track9.specs.Working.States.{after_panel, all_drifted, all_forgotten, all_or_none, AllLeadOn, AreBelow, AreFew, AreWhole, counted, counts_after, DoesOrNot, DriftsAndGoes, effect_taken}
 pub use Rattle.track9.specs.Working.States.{either_panel, first_on, first_states, Follows, FollowsDrift, hands_by, hands_of, HasEffect, InHalves, remains_with_panel_on, is_wide, AreTracked}
-pub use Rattle.track9.specs.Working.States.{LeadsOn, map_halves, on_halves, motion_forgotten, panel_passed, part_of, profile_of, rate_for, rate_in, states_remain, halves_remain, switched, Taken, StepOrPass, halves_changed, halves_drifted, halves_gone, untouched, halves_kept_or_gone}
+pub use Rattle.track9.specs.Working.States.{LeadsOn, map_halves, on_halves, motion_forgotten, registers_forgotten, panel_passed, part_of, profile_of, rate_for, rate_in, states_remain, halves_remain, switched, Taken, StepOrPass, halves_changed, halves_drifted, halves_gone, untouched, halves_kept_or_gone}
 pub use Rattle.track9.specs.Following.{FollowsFrom, KeepsEnds, Leads, LeadsFrom}
 pub use Rattle.track9.specs.Start.{StartsFrom}
 pub use Rattle.track9.specs.Working.Starts.{entries_known, modes_known, part_from, part_known, states_from, halves_from}

@@ -4,6 +4,7 @@ use Rattle.block9.specs.declared.block.Block.{Block}
 use Rattle.block9.specs.declared.command.Command.{Command}
 use Rattle.block9.specs.Command.{is_nak}
 use Rattle.deck9.specs.declared.deck.Deck.{Deck}
+use Rattle.deck9.specs.declared.deck.Forgotten.TheVariants as forgotten
 use Rattle.deck9.specs.declared.effect.Effect.{Effect}
 use Rattle.deck9.specs.declared.effect.Effect.TheVariants as effect
 use Rattle.deck9.specs.declared.sense.Sense.{Sense}
@@ -17,7 +18,8 @@ is_frugal_effect effect.Nothing = true
 is_frugal_effect (effect.Go g) = true
 is_frugal_effect (effect.KeepOr goals) = true
 is_frugal_effect (effect.Panel on) = true
-is_frugal_effect effect.ForgetMotion = true
+is_frugal_effect (effect.Forget forgotten.Nothing) = true
+is_frugal_effect (effect.Forget forgotten.Motion) = true
 is_frugal_effect _ = false
 
 -- what is wanted is no register's time

@@ -3,13 +3,15 @@
 //! A step that may need memory first makes aside what the part in REMOTE gets; then it changes the part in LOCAL, whose sets
 //! may be large, in place, as the last thing that can fail; and then it drifts and puts the rest in place. So a refused
 //! step changes nothing, and a large set is copied only where a deck in REMOTE, too, may ignore a change of a register. A
-//! drift of the mechanics changes the pairs alone, so it may come after what becomes of the registers. What is done with is
-//! dropped by name, as in `states.rt`.
-ghost use Rattle.std.specs.Prelude.{◌≡◌, IfOk, OnErr, OnOk, false, max};
+//! drift of the mechanics changes the pairs alone, and leaves all of them where there are all, so it may come after what
+//! becomes of the registers, and after what is forgotten. What is done with is dropped by name, as in `states.rt`.
+ghost use Rattle.std.specs.Prelude.{◌≡◌, IfOk, IsOk, IsTrue, OnErr, OnOk, false, max};
+ghost use Rattle.deck9.specs.declared.effect.Effect.TheVariants.{Forget};
 ghost use Rattle.sets25.specs.Times.{BelowDay, span_count};
+ghost use Rattle.track9.specs.Frugal.{is_frugal_effect};
 ghost use Rattle.track9.specs.Tracker.{entries_of, in_local};
 ghost use Rattle.track9.specs.Working.Starts.{part_from, halves_from};
-ghost use Rattle.track9.specs.Working.States.{HalvesBelow, HalvesWhole, all_forgotten, all_or_none, motion_forgotten, rate_in, registers_forgotten, halves_remain, tape_forgotten, halves_changed, halves_drifted, halves_forgotten, halves_gone, halves_kept_or_gone, halves_sensed, halves_status};
+ghost use Rattle.track9.specs.Working.States.{HalvesBelow, HalvesWhole, all_forgotten, all_or_none, motion_forgotten, rate_in, registers_forgotten, halves_remain, halves_changed, halves_drifted, halves_forgotten, halves_gone, halves_kept_or_gone, halves_sensed, halves_status};
 
 use crate::deck_ref::DeckRef;
 use crate::part::Part;
@@ -203,17 +205,6 @@ impl<S: TimeSet> Halves<S> {
         self.local.keep_status(alloc, true, status);
     }
 
-    /// A drift of the mechanics, and then goal and shown mode are forgotten. It answers whether there is a state.
-    #[inline(never)] // as it is rare
-    fn drift_and_forget_motion(&mut self, deck: &DeckRef) -> bool
-        ensures forgotten { self.new ≡ motion_forgotten (halves_drifted deck.now self.old) }
-        ensures some { result ≡ halves_remain self.new }
-    {
-        let some = self.drift(deck);
-        self.forget_motion();
-        some
-    }
-
     /// Goal and shown mode are forgotten.
     fn forget_motion(&mut self)
         ensures { self.new ≡ motion_forgotten self.old }
@@ -223,9 +214,11 @@ impl<S: TimeSet> Halves<S> {
     }
 
     /// What is named is forgotten, without a drift. Where memory is refused nothing has changed.
+    #[inline(never)] // as it is rare, and takes memory
     pub(crate) fn forget(&mut self, alloc: Global, forgotten: Forgotten) -> Result<(), AllocError>
         ensures ok { OnOk result (self.new ≡ halves_forgotten forgotten self.old) }
         ensures err { OnErr result (self.new ≡ self.old) }
+        ensures frugal { IsTrue (is_frugal_effect (Forget forgotten)) → IsOk result }
     {
         match forgotten {
             Forgotten::Nothing => Ok(()),
@@ -234,32 +227,16 @@ impl<S: TimeSet> Halves<S> {
                 Ok(())
             }
             Forgotten::Registers => self.forget_registers(alloc),
-            Forgotten::Tape => self.forget_tape(alloc),
+            Forgotten::Tape => {
+                self.forget_registers(alloc)?;
+                self.forget_motion();
+                Ok(())
+            }
             Forgotten::Everything => self.forget_all(alloc),
         }
     }
 
-    /// Goal, shown mode and registers are forgotten.
-    #[inline(never)] // as it takes memory
-    fn forget_tape(&mut self, alloc: Global) -> Result<(), AllocError>
-        ensures ok { OnOk result (self.new ≡ tape_forgotten self.old) }
-        ensures err { OnErr result (self.new ≡ self.old) }
-    {
-        let remote = self.remote.tape_forgotten(alloc)?;
-        match self.local.tape_forgotten(alloc) {
-            Ok(local) => {
-                self.put(remote, local);
-                Ok(())
-            }
-            Err(error) => {
-                drop(remote);
-                Err(error)
-            }
-        }
-    }
-
     /// The registers are forgotten.
-    #[inline(never)] // as it takes memory
     fn forget_registers(&mut self, alloc: Global) -> Result<(), AllocError>
         ensures ok { OnOk result (self.new ≡ registers_forgotten self.old) }
         ensures err { OnErr result (self.new ≡ self.old) }
@@ -286,7 +263,6 @@ impl<S: TimeSet> Halves<S> {
     }
 
     /// Everything but the panel is forgotten.
-    #[inline(never)] // as it takes memory
     fn forget_all(&mut self, alloc: Global) -> Result<(), AllocError>
         ensures ok { OnOk result (self.new ≡ all_forgotten self.old) }
         ensures err { OnErr result (self.new ≡ self.old) }

@@ -281,16 +281,6 @@ impl<S: TimeSet> Part<S> {
         }
     }
 
-    /// Every state, where there is one.
-    pub(crate) fn tape_forgotten(&self, alloc: Global) -> Result<Part<S>, AllocError>
-        ensures { IfOk result (λ p. p ≡ where_remains (λ q. all_states (rate_of q)) self.now) }
-    {
-        if !self.remains() {
-            return self.copy();
-        }
-        Part::all(alloc, self.rate())
-    }
-
     /// The pairs with any entries, where there is a state.
     pub(crate) fn registers_forgotten(&self, alloc: Global) -> Result<Part<S>, AllocError>
         ensures { IfOk result (λ p. p ≡ where_remains forgotten_part self.now) }

@@ -2,7 +2,7 @@
 ghost use Rattle.std.specs.Prelude.{◌≡◌, ◌↔◌, IsTrue};
 ghost use Rattle.track9.specs.Working.Pattern.{Is, any_motion, any_registers, any_tape, pattern_before, entry_before, is_as_wanted, just_state, with_wanted};
 
-use deck9::{Change, Effect, Entry, Hands, ModeSet, Register, State};
+use deck9::{Change, Effect, Entry, Forgotten, Hands, ModeSet, Register, State};
 use tc25::Rate;
 
 /// The states with one of these goals, one of these modes shown, and in each other field the value that is wanted, or
@@ -47,7 +47,7 @@ impl Pattern {
     {
         let mut wanted = Pattern::just(target);
         match effect {
-            Effect::Nothing => {}
+            Effect::Nothing | Effect::Forget(Forgotten::Nothing) => {}
             Effect::Go(goal) => {
                 if target.goal != *goal {
                     return None;
@@ -71,10 +71,10 @@ impl Pattern {
                     wanted.panel = None;
                 }
             }
-            Effect::ForgetMotion => wanted.free_motion(),
-            Effect::ForgetTape => wanted.free_tape(),
-            Effect::ForgetRegisters => wanted.free_registers(),
-            Effect::ForgetAll => {
+            Effect::Forget(Forgotten::Motion) => wanted.free_motion(),
+            Effect::Forget(Forgotten::Registers) => wanted.free_registers(),
+            Effect::Forget(Forgotten::Tape) => wanted.free_tape(),
+            Effect::Forget(Forgotten::Everything) => {
                 wanted.free_tape();
                 wanted.local = None;
                 if hands == Hands::Allowed {

@@ -16,7 +16,7 @@ use crate::halves::Halves;
 use crate::start::Start;
 use block9::{Block, Command};
 use boxed::{all_boxed, copy_boxed};
-use deck9::{Effect, Hands, Register};
+use deck9::{Effect, Forgotten, Hands, Register};
 use sets25::{SpanSet, TimeSet};
 use std::alloc::{AllocError, Global};
 use std::marker::Model;
@@ -189,7 +189,7 @@ impl<S: TimeSet> States<S> {
                 Some(_) => self.switch_panel(alloc, deck, on),
                 None => self.pass_panel(alloc, deck, on),
             },
-            Effect::ForgetAll => self.forget_all(alloc),
+            Effect::Forget(Forgotten::Everything) => self.forget_all(alloc),
             _ => self.take_both(alloc, deck, command, reply),
         }
     }

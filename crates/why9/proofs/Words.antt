@@ -3,7 +3,8 @@ pub use Rattle.block9.specs.declared.exchange.Exchange.{Exchange}
 pub use Rattle.block9.specs.Command.{is_nak}
 pub use Rattle.deck9.proofs.LawLemmas.{drift_join}
 pub use Rattle.deck9.specs.Drift.{Drift}
-pub use Rattle.deck9.specs.Step.{DeckStep, done, Forgets, forgotten_with, Goes, ignored, refused}
+pub use Rattle.deck9.specs.Effect.{Forgets}
+pub use Rattle.deck9.specs.Step.{DeckStep, done, forgotten_with, Goes, ignored, refused}
 pub use Rattle.deck9.proofs.ContradictLemmas.{before_the_first, believing_all, believing_fewer, first_may, stays}
 pub use Rattle.deck9.specs.Contradict.{behind_first, Contradict, HasBelieving, IsBelievingFrom, MayGo}
 pub use Rattle.deck9.proofs.RunLemmas.{some_end}

@@ -126,12 +126,10 @@ impl Disputed {
     fn is_changed_by(self, effect: Effect) -> bool {
         match effect {
             Effect::Nothing => false,
-            Effect::Go(_) | Effect::KeepOr(_) | Effect::ForgetMotion => self.shown,
+            Effect::Go(_) | Effect::KeepOr(_) => self.shown,
             Effect::Change(register, _) => self.has(register),
             Effect::Panel(_) => self.local,
-            Effect::ForgetTape => self.is_forgotten(Forgotten::Tape),
-            Effect::ForgetRegisters => self.has_register(),
-            Effect::ForgetAll => true,
+            Effect::Forget(forgotten) => self.is_forgotten(forgotten),
         }
     }
 

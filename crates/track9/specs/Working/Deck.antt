@@ -6,7 +6,7 @@ pub use Rattle.block9.specs.declared.block.Block.{Block}
 pub use Rattle.block9.specs.declared.command.Command.{Command}
 pub use Rattle.deck9.specs.Contradict.{CanPass, Passes}
 pub use Rattle.deck9.specs.Drift.{Drift, KeepsRest, PairReaches}
-pub use Rattle.deck9.specs.Effect.{Becomes, Does, effect_of, KeepsOrGoes, KeepsPanel, moved_entry, switched as panel_switched}
+pub use Rattle.deck9.specs.Effect.{Becomes, Does, effect_of, Forgets, KeepsOrGoes, KeepsPanel, moved_entry, switched as panel_switched}
 pub use Rattle.deck9.specs.Local.{is_of_goal_or_register, may_ignore}
 pub use Rattle.deck9.specs.Mode.{is_mode, is_one_of, on_the_way}
 pub use Rattle.deck9.specs.ModeCalls.{both, is_some, KnowsModes, way}
@@ -14,7 +14,7 @@ pub use Rattle.deck9.specs.ModeSet.{bit_of, either, has, modes}
 pub use Rattle.deck9.specs.Shows.{Agrees, AreSet, sense_of, Shows, shown_by, ShowsStatus, Tells}
 pub use Rattle.deck9.specs.State.{entry_of, is_set, IsEntry, IsFirst, IsState, MayBeOn, with_entry}
 pub use Rattle.deck9.specs.Status.{status_of}
-pub use Rattle.deck9.specs.Step.{AreReached, DeckStep, done, Exchanges, Forgets, forgotten_with, Goes, ignored, refused}
+pub use Rattle.deck9.specs.Step.{AreReached, DeckStep, done, Exchanges, forgotten_with, Goes, ignored, refused}
 pub use Rattle.block9.specs.Block.{head_of}
 pub use Rattle.deck9.specs.Deck.{forgotten_beside, way_of}
 pub use Rattle.deck9.specs.declared.deck.Deck.{Deck}

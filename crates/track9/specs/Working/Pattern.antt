@@ -3,8 +3,8 @@ use Rattle.std.specs.Prelude.{if◌then◌else◌, ◌==◌, ◌≡◌}
 use Rattle.track9.specs.Working.Deck.{Pattern, At, bit_of, Bool, Change, Clear, Command, Deck, Drift, Effect, Entry, entry_of, false, Hands, has, has_pair, is_mode, IsState, KeepsRest}
 use Rattle.track9.specs.Working.Deck.{List, may_ignore, Mode, modes, ModeSet, moved_entry, Next, next_frame, None, Option, option_map, Pair, PairReaches, Prev, prev_frame, Profile, Rate}
 use Rattle.track9.specs.Working.Deck.{Recall, RegAudioIn, RegAudioOut, RegIn, Register, RegOut, Reset, SetAt, SetSomewhere, Some, State, true}
+use Rattle.deck9.specs.declared.deck.Forgotten.TheVariants as forgotten
 use Rattle.deck9.specs.declared.effect.Effect.TheVariants as effect
-use Rattle.deck9.specs.declared.mode.Mode.TheVariants as mode
 use Rattle.deck9.specs.declared.state.Hands.TheVariants as hands
 pub use Rattle.track9.specs.Start.{Is}
 
@@ -103,10 +103,11 @@ pattern_before rate h (effect.Go g) t = if is_mode t.goal g then Some (any_goal 
 pattern_before rate h (effect.KeepOr goals) t = Some (if has goals.0 t.goal then any_goal t else just_state t)
 pattern_before rate h (effect.Change r c) t = option_map (λ o. with_wanted r o (just_state t)) (entry_before rate c (entry_of r t))
 pattern_before rate h (effect.Panel on) t = panel_before h on t
-pattern_before rate h effect.ForgetMotion t = Some (any_motion (just_state t))
-pattern_before rate h effect.ForgetTape t = Some (any_tape (just_state t))
-pattern_before rate h effect.ForgetRegisters t = Some (any_registers (just_state t))
-pattern_before rate h effect.ForgetAll t = Some (any_panel h (record (any_tape (just_state t)) { local = None }))
+pattern_before rate h (effect.Forget forgotten.Nothing) t = Some (just_state t)
+pattern_before rate h (effect.Forget forgotten.Motion) t = Some (any_motion (just_state t))
+pattern_before rate h (effect.Forget forgotten.Registers) t = Some (any_registers (just_state t))
+pattern_before rate h (effect.Forget forgotten.Tape) t = Some (any_tape (just_state t))
+pattern_before rate h (effect.Forget forgotten.Everything) t = Some (any_panel h (record (any_tape (just_state t)) { local = None }))
 
 -- a deck in this state may have ignored the command
 abbrev pub IsUndone : Command → State → Type 0

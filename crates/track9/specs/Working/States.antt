@@ -80,9 +80,6 @@ halves_status status h = map_halves (λ local. where_remains (status_part local 
 abbrev pub motion_forgotten : Halves → Halves
 motion_forgotten h = map_halves (λ local. where_remains (with_pairs all_pairs)) h
 
-abbrev pub tape_forgotten : Halves → Halves
-tape_forgotten h = map_halves (λ local. where_remains (λ p. all_states (rate_of p))) h
-
 abbrev pub registers_forgotten : Halves → Halves
 registers_forgotten h = map_halves (λ local. where_remains forgotten_part) h
 
@@ -93,7 +90,7 @@ abbrev pub halves_forgotten : Forgotten → Halves → Halves
 halves_forgotten forgotten.Nothing h = h
 halves_forgotten forgotten.Motion h = motion_forgotten h
 halves_forgotten forgotten.Registers h = registers_forgotten h
-halves_forgotten forgotten.Tape h = tape_forgotten h
+halves_forgotten forgotten.Tape h = motion_forgotten (registers_forgotten h)
 halves_forgotten forgotten.Everything h = all_forgotten h
 
 -- the rules, or this deck, at a rate, where nobody touches the panel
@@ -209,7 +206,7 @@ first_states rate h = record { off = all_or_none rate true; on = first_on rate h
 -- an effect to which a hand on the panel makes a difference
 abbrev pub is_wide : Effect → Bool
 is_wide (effect.Panel on) = true
-is_wide effect.ForgetAll = true
+is_wide (effect.Forget forgotten.Everything) = true
 is_wide _ = false
 
 -- the states after a drift, put together whatever the panel: where it may have been on, a hand may have done anything

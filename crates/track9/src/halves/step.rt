@@ -131,17 +131,8 @@ impl<S: TimeSet> Halves<S> {
                 self.below_day();
                 Ok(self.drift(deck))
             }
-            Effect::ForgetMotion => Ok(self.drift_and_forget_motion(deck)),
-            Effect::ForgetTape => {
-                self.forget_tape(alloc)?;
-                Ok(self.drift(deck))
-            }
-            Effect::ForgetRegisters => {
-                self.forget_registers(alloc)?;
-                Ok(self.drift(deck))
-            }
-            Effect::ForgetAll => {
-                self.forget_all(alloc)?;
+            Effect::Forget(forgotten) => {
+                self.forget(alloc, forgotten)?;
                 Ok(self.drift(deck))
             }
         }

@@ -3,8 +3,8 @@ ghost use Rattle.std.specs.Prelude.{◌≡◌, ◌↔◌, IfErr, IfNone, IfOk, I
 ghost use Rattle.block9.specs.Block.{head_of};
 ghost use Rattle.deck9.specs.Contradict.{MayGo};
 ghost use Rattle.deck9.specs.Deck.{forgotten_beside};
-ghost use Rattle.deck9.specs.Effect.{effect_of};
-ghost use Rattle.deck9.specs.Step.{AreReached, Forgets, Goes, forgotten_with};
+ghost use Rattle.deck9.specs.Effect.{Forgets, effect_of};
+ghost use Rattle.deck9.specs.Step.{AreReached, Goes, forgotten_with};
 ghost use Rattle.track9.specs.Frugal.{is_frugal, is_frugal_effect};
 ghost use Rattle.track9.specs.Presets.{presets_after, with_command};
 ghost use Rattle.track9.specs.Tracker.{Possible};

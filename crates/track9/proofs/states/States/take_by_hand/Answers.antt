@@ -24,8 +24,8 @@ returns-in-None-clause-ok g c =
     (λ new. rw new (by_hand c.args.deck.now c.args.command.now None c.args.self.now _ c.requires.hands
     (passed_panel c.args.deck.now c.args.command.now c.in-Panel.on c.args.self.now is c.requires.whole c.below_day.ensures))) c.pass_panel.ensures.ok)
 
-pub returns-in-ForgetAll-clause-ok : goal.returns-in-ForgetAll-clause-ok
-returns-in-ForgetAll-clause-ok g c = on_ok_weaker c.forget_all.result
+pub returns-in-Forget-Everything-clause-ok : goal.returns-in-Forget-Everything-clause-ok
+returns-in-Forget-Everything-clause-ok g c = on_ok_weaker c.forget_all.result
     (λ new. rw new (by_hand c.args.deck.now c.args.command.now (option_map (λ b. b.now) c.args.reply) c.args.self.now _ c.requires.hands
-    (follows_forget c.args.deck.now c.args.command.now (option_map (λ b. b.now) c.args.reply) c.args.self.now (sym c.effect_taken.ensures ∙ c.in-ForgetAll.is)
+    (follows_forget c.args.deck.now c.args.command.now (option_map (λ b. b.now) c.args.reply) c.args.self.now (rw c.in-Forget-Everything.field-0-is at (sym c.effect_taken.ensures ∙ c.in-Forget-Everything.is))
     c.requires.hands c.requires.whole c.below_day.ensures))) c.forget_all.ensures.ok
