@@ -2,13 +2,13 @@
 -- what becomes of a set of entries, one entry at a time.
 use Rattle.track9.proofs.Words.{all_has, and-true, Deck, either, has-and, nothing_has, ten_of, way_of}
 use Rattle.track9.proofs.Words.{[], agreeing, Allows, and_parts, any_mode, ap, arith, At, Becomes, BelowDay, bit_of, Bool}
-use Rattle.track9.proofs.Words.{just_of, nat_lt, Rate, with_time, both_ways, by_goal, Change, changed_entries, Clear, cond_both, contains-every_time, contains-insert_nat, contains-items_nat, contains-just, day}
-use Rattle.track9.proofs.Words.{drifted_with, Entries, Entry, eqb-true, every_mode, every_time, false, false_from_ne_true, false≢true, find_mode, goal_if_shown, goals_of, all_shown, halted}
-use Rattle.track9.proofs.Words.{has, has-or, has_pair, if◌then◌else◌, image_from, image_to, inl, inr, is_mode, is_mode-same, is_nil, is_set, is_some, just, just_has}
+use Rattle.track9.proofs.Words.{just_of, Rate, with_time, by_goal, Change, changed_entries, Clear, cond_both, contains-every_time, contains-insert_nat, contains-items_nat, contains-just, day}
+use Rattle.track9.proofs.Words.{drifted_with, Entries, Entry, eqb-true, every_mode, every_time, false, false≢true, find_mode, goal_if_shown, goals_of, all_shown, halted}
+use Rattle.track9.proofs.Words.{has, has-or, has_pair, if◌then◌else◌, image_from, image_to, inl, inr, is_mode, is_mode-same, is_nil, is_set, is_some, just_has}
 use Rattle.track9.proofs.Words.{kept_goal, List, list_any, ltb-true, Mode, mode_self, mode_some, modes, ModeSet, nat_cmp, nat_cmp_total, nat_eq, nat_tests, Next}
-use Rattle.track9.proofs.Words.{next_frame, no_entries, None, not, not-true, Option, or-false, or-true, or_assoc, or_cases, or_left, pairs_of, shown_if}
-use Rattle.track9.proofs.Words.{or_right, PairReaches, Prev, prev_frame, read_given, Recall, refl, Reset, same_test, same_times, set_entries, SetAt, SetSomewhere}
-use Rattle.track9.proofs.Words.{shown_with, Some, some_entry, some_mode, some_pair, Stop, subst, sym, Tells, time_of, given_reads, Times, true, true_from_ne_false, ℕ}
+use Rattle.track9.proofs.Words.{next_frame, no_entries, not, not-true, Option, or-false, or-true, or_assoc, or_cases, or_left, pairs_of, shown_if}
+use Rattle.track9.proofs.Words.{PairReaches, Prev, prev_frame, read_given, Recall, refl, Reset, same_times, set_entries, SetAt, SetSomewhere}
+use Rattle.track9.proofs.Words.{shown_with, some_entry, some_mode, some_pair, Stop, sym, Tells, time_of, given_reads, Times, true, true_from_ne_false, ℕ}
 use Rattle.track9.proofs.Words.{◌&&◌, ◌<◌, ◌||◌, ◌↔◌, ◌∙◌, ◌∷◌, ◌≡◌, ◌⊎◌}
 use Rattle.std.specs.FinSet as set
 
@@ -28,8 +28,7 @@ goes_any p m = simp (has-or, or_assoc, or-false)
 
 -- each of these goals with each of these modes shown
 pub pairs_have : (goals shown : ModeSet) (g m : Mode) → has_pair (pairs_of goals shown) g m ≡ (has goals.0 g && has shown.0 m)
-pairs_have goals shown g m = pair_by_goal (shown_if goals shown) g m
-    ∙ (elim (has goals.0 g) as (λ b. has (if b then shown else modes 0).0 m ≡ (b && has shown.0 m)) [ true ↦ refl | false ↦ nothing_has m ])
+pairs_have goals shown g m = grind (arith, pair_by_goal (shown_if goals shown) g m, nothing_has m)
 
 pub goes_from : (p : List ModeSet) (m : Mode) → has (all_shown p).0 m ≡ true → (g : Mode) × (has_pair p g m ≡ true)
 goes_from p m h = find_mode (λ g. has_pair p g m) every_mode (sym (goes_any p m) ∙ h)
@@ -53,18 +52,11 @@ ten_has : (way : ModeSet) (m : Mode) → has (ten_of way).0 m ≡ has way.0 m
 ten_has way m = grind (arith, has-and, all_has, and-true)
 
 kept_has : (s way : ModeSet) (g m : Mode) → has (kept_goal s way g).0 m ≡ (has s.0 m || (is_some s && (is_mode m g || has way.0 m)))
-kept_has s way g m = by (is_some s)
-  where
-    by : (b : Bool) → has (if b then either (either s (modes (bit_of g))) (ten_of way) else s).0 m ≡ (has s.0 m || (b && (is_mode m g || has way.0 m)))
-    by true = simp (has-or, just_has, ten_has, or_assoc)
-    by false = sym (or-false (has s.0 m))
+kept_has s way g m = cond_both (is_some s) (either (either s (modes (bit_of g))) (ten_of way)) s (λ x. has x.0 m ≡ (has s.0 m || (is_some s && (is_mode m g || has way.0 m))))
+    (λ e. rw e (simp (has-or, just_has, ten_has, or_assoc))) (λ e. rw e (sym (or-false (has s.0 m))))
 
 halted_has : (p : List ModeSet) (way : ModeSet) (m : Mode) → has (halted p way).0 m ≡ (some_pair p && (is_mode m Stop || has way.0 m))
-halted_has p way m = by (some_pair p)
-  where
-    by : (b : Bool) → has (if b then ten_of (either (modes (bit_of Stop)) way) else modes 0).0 m ≡ (b && (is_mode m Stop || has way.0 m))
-    by true = ten_has (either (modes (bit_of Stop)) way) m ∙ simp (has-or, just_has)
-    by false = nothing_has m
+halted_has p way m = grind (arith, ten_has (either (modes (bit_of Stop)) way) m, has-or (bit_of Stop) way.0 m, just_has, nothing_has m)
 
 -- a mode may be shown with a goal after a drift: as before; where a mode was shown with it, itself or one on the way to it; or with STOP, STOP or
 -- one on the way to it
@@ -99,20 +91,13 @@ from_empty t h = absurd (false≢true (sym (set.contains-empty nat_cmp t) ∙ h)
 
 -- one time of the day alone, and with others
 pub just_is : (rate : Rate) (t f : ℕ) → set.contains (just_of rate t) f ≡ true → (t < day rate) × (f ≡ t)
-just_is rate t f = cond_both (nat_lt t (day rate)) (just t) set.empty (λ s. set.contains s f ≡ true → (t < day rate) × (f ≡ t))
-    (λ low h. (grind (arith, nat_tests), eqb-true f t (sym (contains-just t f) ∙ h))) (λ high h. from_empty f h)
+just_is rate t f h = grind (arith, set.contains-empty nat_cmp, contains-just, nat_tests, eqb-true)
 
 pub just_self : (rate : Rate) (t : ℕ) → t < day rate → set.contains (just_of rate t) t ≡ true
 just_self rate t low = grind (arith, contains-just)
 
 with_from : (rate : Rate) (s : Times) (u t : ℕ) → set.contains (with_time rate s u) t ≡ true → ((u < day rate) × (t ≡ u)) ⊎ (set.contains s t ≡ true)
 with_from rate s u t h = grind (arith, or_cases, contains-insert_nat, eqb-true)
-
-with_self : (rate : Rate) (s : Times) (t : ℕ) → t < day rate → set.contains (with_time rate s t) t ≡ true
-with_self rate s t low = grind (arith, contains-insert_nat)
-
-with_old : (rate : Rate) (s : Times) (u t : ℕ) → set.contains s t ≡ true → set.contains (with_time rate s u) t ≡ true
-with_old rate s u t a = grind (arith, contains-insert_nat, or_right)
 
 in_union : (s t : Times) (f : ℕ) → set.contains (set.union s t) f ≡ true → (set.contains s f ≡ true) ⊎ (set.contains t f ≡ true)
 in_union s t f h = or_cases (set.contains s f) (set.contains t f) (sym (set.contains-union nat_cmp_total s t f) ∙ h)
@@ -139,78 +124,43 @@ entry_from true _ es d e a h = inr (refl, h)
 
 -- where an entry goes to
 pub entry_to : (may_stay : Bool) (c : Change) (es : Entries) (d e : Entry) → Allows es d → Becomes es.rate c d e → Allows (changed_entries may_stay c es) e
-entry_to false (SetAt u) es d e a w = rw w.1 (just_self es.rate u w.0)
-entry_to b SetSomewhere es d e a w = rw w.2 (day_in es.rate w.0 w.1)
-entry_to b Reset es d e a w = rw w refl
-entry_to b Recall es d Clear a w = refl
-entry_to b Recall es d (At t) a w = day_in es.rate t w
-entry_to true (SetAt u) es d e a w = rw w.1 (with_self es.rate es.times u w.0)
-entry_to b _ es Clear e a w = rw w a
-entry_to false _ es (At t) e a w = rw w (image_to _ es.times t a)
-entry_to true _ es (At t) e a w = rw w (set.contains-union nat_cmp_total es.times _ _ ∙ or_right (set.contains es.times _) _ (image_to _ es.times t a))
+entry_to may_stay c es Clear e a w = grind (arith, just_self, day_in, contains-insert_nat)
+entry_to may_stay c es (At t) e a w = let next = image_to (next_frame es.rate) es.times t a in let prev = image_to (prev_frame es.rate) es.times t a in
+    grind (arith, just_self, day_in, contains-insert_nat, next, prev, set.contains-union nat_cmp_total)
 
 -- where it may stay it does, since the times are times of the day
 pub entry_stays : (may_stay : Bool) (c : Change) (es : Entries) (e : Entry) → may_stay ≡ true → BelowDay es.rate es.times → Allows es e
     → Allows (changed_entries may_stay c es) e
-entry_stays false c es e stays below a = absurd (false≢true stays)
-entry_stays true Reset es Clear stays below a = refl
-entry_stays true Recall es Clear stays below a = refl
-entry_stays true (SetAt u) es (At t) stays below a = with_old es.rate es.times u t a
-entry_stays true Next es (At t) stays below a = set.contains-union nat_cmp_total es.times _ t ∙ rw a refl
-entry_stays true Prev es (At t) stays below a = set.contains-union nat_cmp_total es.times _ t ∙ rw a refl
-entry_stays true SetSomewhere es (At t) stays below a = day_in es.rate t (below t a)
-entry_stays true Recall es (At t) stays below a = day_in es.rate t (below t a)
-entry_stays true _ es e stays below a = a
+entry_stays may_stay c es e stays below a = grind (arith, contains-insert_nat, day_in, set.contains-union nat_cmp_total)
 
 -- ---- entries that agree with a reply
 
 -- exactly the entries that tell these bytes
 pub tells_exactly : (bytes : List ℕ) (es : Entries) (e : Entry) → Allows (agreeing (time_of es.rate bytes) es) e ↔ (Allows es e × Tells es.rate e bytes)
-tells_exactly bytes es e = by (time_of es.rate bytes) refl e
-  where
-    by : (o : Option ℕ) → time_of es.rate bytes ≡ o → (e : Entry) → Allows (agreeing o es) e ↔ (Allows es e × Tells es.rate e bytes)
-    by None read Clear = (λ h. (h, tt), λ w. w.0)
-    by None read (At u) = (λ h. from_empty u h, λ w. cc (read, read_given es.rate bytes u w.1))
-    by (Some t) read Clear = (λ h. (h, tt), λ w. w.0)
-    by (Some t) read (At u) = (
-      cond_both (set.contains es.times t) (just_of es.rate t) set.empty (λ s. set.contains s u ≡ true → (set.contains es.times u ≡ true) × Tells es.rate (At u) bytes)
-          (λ e there. let same = (just_is es.rate t u there).1 in (rw same e, rw same (given_reads es.rate bytes t read))) (λ e there. from_empty u there),
-      λ w. let same : t ≡ u = cc (read, read_given es.rate bytes u w.1) in rw (same, w.0) (just_self es.rate u (w.1.0)),
-    )
+tells_exactly bytes es e = grind (arith, set.contains-empty nat_cmp, read_given, just_is, given_reads, just_self)
 
 -- exactly the entries that are Set, or are Clear
 pub set_exactly : (b : Bool) (es : Entries) (e : Entry) → Allows (set_entries b es) e ↔ (Allows es e × (is_set e ≡ b))
-set_exactly true es Clear = (λ h. absurd (false≢true h), λ w. absurd (false≢true w.1))
-set_exactly false es (At t) = (λ h. from_empty t h, λ w. absurd (false≢true (sym w.1)))
-set_exactly _ es Clear = (λ h. (h, refl), λ w. w.0)
-set_exactly _ es (At t) = (λ h. (h, refl), λ w. w.0)
+set_exactly b es e = grind (arith, set.contains-empty nat_cmp)
 
 -- ---- whether there is an entry
 
-some_time : (s : Times) → ((is_nil (set.items s) ≡ true) × (s ≡ set.empty)) ⊎ ((is_nil (set.items s) ≡ false) × ((f : ℕ) × (set.contains s f ≡ true)))
-some_time s = by (set.items s) refl
-  where
-    by : (xs : List ℕ) → set.items s ≡ xs → ((is_nil xs ≡ true) × (s ≡ set.empty)) ⊎ ((is_nil xs ≡ false) × ((f : ℕ) × (set.contains s f ≡ true)))
-    by [] e = inl (refl, same_times s set.empty (λ f. contains-items_nat s f ∙ ap (list_any (λ y. nat_eq y f)) e ∙ sym (set.contains-empty nat_cmp f)))
-    by (x ∷ xs) e = inr (refl, (x, contains-items_nat s x ∙ ap (list_any (λ y. nat_eq y x)) e ∙ or_left (nat_eq x x) _ (grind (arith, nat_tests))))
-
 pub there_time : (s : Times) → is_nil (set.items s) ≡ false → (f : ℕ) × (set.contains s f ≡ true)
-there_time s h = elim (some_time s) [ inl w ↦ absurd (false≢true (sym h ∙ w.0)) | inr w ↦ w.1 ]
+there_time s = by (set.items s) refl
+  where
+    by : (xs : List ℕ) → set.items s ≡ xs → is_nil xs ≡ false → (f : ℕ) × (set.contains s f ≡ true)
+    by [] e some = cc
+    by (x ∷ xs) e some = (x, contains-items_nat s x ∙ ap (list_any (λ y. nat_eq y x)) e ∙ or_left (nat_eq x x) _ (grind (arith, nat_tests)))
 
 pub nil_empty : (s : Times) → is_nil (set.items s) ≡ true → s ≡ set.empty
-nil_empty s h = elim (some_time s) [ inl w ↦ w.1 | inr w ↦ absurd (false≢true (sym w.0 ∙ h)) ]
+nil_empty s h = same_times s set.empty (λ f. grind (arith, contains-items_nat s f, set.contains-empty nat_cmp f))
 
 -- there is an entry exactly where one is allowed
 pub allowed_some : (es : Entries) (e : Entry) → Allows es e → some_entry es ≡ true
-allowed_some es Clear h = or_left es.may_clear _ h
-allowed_some es (At t) h = or_right es.may_clear _ (ap not (false_from_ne_true _
-    (λ nil. from_empty t (subst (λ s. set.contains s t ≡ true) (nil_empty es.times nil) h))))
+allowed_some es e h = grind (arith, nil_empty, set.contains-empty nat_cmp)
 
 pub some_allowed : (es : Entries) → some_entry es ≡ true → (e : Entry) × Allows es e
-some_allowed es h = elim (or_cases es.may_clear (not (is_nil (set.items es.times))) h) [
-  | inl clear ↦ (Clear, clear)
-  | inr some ↦ let w = there_time es.times (not-true _ some) in (At w.0, w.1)
-]
+some_allowed es h = elim (or_cases es.may_clear _ h) [ inl clear ↦ (Clear, clear) | inr some ↦ let w = there_time es.times (not-true _ some) in (At w.0, w.1) ]
 
 pub nothing_allowed : (es : Entries) → some_entry es ≡ false → (e : Entry) → Allows es e → ⊥
 nothing_allowed es none e a = false≢true (sym none ∙ allowed_some es e a)
@@ -219,12 +169,5 @@ nothing_allowed es none e a = false≢true (sym none ∙ allowed_some es e a)
 pub empty_nil : is_nil (set.items {R = nat_cmp} set.empty) ≡ true
 empty_nil = true_from_ne_false _ (λ e. let w = there_time set.empty e in from_empty w.0 w.1)
 
-pub some_by : (b : Bool) (es : Entries) → es.may_clear ≡ false → (b ≡ true → es.times ≡ set.empty) → (es.times ≡ set.empty → b ≡ true) → not b ≡ some_entry es
-some_by b es clear to from = grind (arith, same_test, empty_nil, nil_empty)
-
 pub no_entry : (rate : Rate) → some_entry (no_entries rate) ≡ false
 no_entry rate = ap not empty_nil
-
--- a register without entries has no times
-pub no_times : (es : Entries) → some_entry es ≡ false → es.times ≡ set.empty
-no_times es h = nil_empty es.times (true_from_ne_false _ (λ e. both_ways (some_entry es) h (or_right es.may_clear _ (ap not e))))

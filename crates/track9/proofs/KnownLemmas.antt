@@ -1,15 +1,15 @@
 -- What is known of modes, of facts and of a register; and what a tracker keeps, remains and counts.
-use Rattle.track9.proofs.Words.{Allows, and_parts, ap, AreFew, AreTimes, AreWhole, arith, At, begin_count-empty, Block, Bool, Clear, Command, contains-just}
-use Rattle.track9.proofs.Words.{contains-remove_nat, count_of, either, Entries, entries_of, Entry, entry_of, eqb, eqb-true, false, false_from_ne_true, false≢true, Follows}
-use Rattle.track9.proofs.Words.{Profile, profile_of, Rate, rate_for, goals_in, goals_of, all_shown, has, has-or, has_pair, in_local, inl, InPart, inr, part_remains, is_nil, remains_with_panel_on, is_set}
-use Rattle.track9.proofs.Words.{is_some, AreTracked, IsKnown, IsKnownEntry, IsSpanCount, IsTrue, join_options, joined, joined_known, just, Known, known_fact, KnownEntry, KnowsModes}
-use Rattle.track9.proofs.Words.{KnowsOf, List, max, max-zero, Mode, mode_some, ModeSet, nat_cmp, nat_tests, None, not, on_halves, Option, part_of, PartKnows, Part}
+use Rattle.track9.proofs.Words.{Allows, ap, AreFew, AreTimes, AreWhole, arith, At, begin_count-empty, Block, Bool, Clear, Command, contains-just}
+use Rattle.track9.proofs.Words.{contains-remove_nat, contains-retain_nat, count_of, either, Entries, entries_of, Entry, entry_of, eqb-true, false, false_from_ne_true, false≢true, Follows}
+use Rattle.track9.proofs.Words.{Profile, profile_of, Rate, rate_for, goals_in, goals_of, all_shown, has, has-or, has_pair, in_local, inl, InPart, inr, part_remains, is_nil, remains_with_panel_on}
+use Rattle.track9.proofs.Words.{is_some, AreTracked, IsKnown, IsKnownEntry, IsSpanCount, IsTrue, join_options, joined, just, Known, known_fact, KnownEntry, KnowsModes}
+use Rattle.track9.proofs.Words.{KnowsOf, List, max, max-zero, Mode, mode_some, ModeSet, nat_cmp, nat_tests, None, on_halves, Option, part_of, PartKnows, Part}
 use Rattle.track9.proofs.Words.{Possible, Presets, presets_after, refl, Register, same_test, same_times, shown_in, shown_with, Some, some_entry, some_mode, states_remain}
 use Rattle.track9.proofs.Words.{halves_remain, span_count, span_count-begin_count, State, States, subst, sym, Times, true, halves_of, HalvesKnow, Halves, HalvesWhole}
 use Rattle.track9.proofs.Words.{Whole, with_entry, ℕ, ◌+◌, ◌||◌, ◌↔◌, ◌∙◌, ◌≡◌, ◌≢◌, ◌≤◌, ◌⊎◌}
 use Rattle.std.specs.FinSet as set
 use Rattle.deck9.specs.declared.knowledge.KnownEntry.TheVariants as entry
-use Rattle.track9.proofs.EntryLemmas.{allowed_some, from_empty, goals_has, goes_from, goes_to, nil_empty, no_times, nothing_allowed, some_allowed, there_time}
+use Rattle.track9.proofs.EntryLemmas.{allowed_some, goals_has, goes_from, goes_to, nil_empty, nothing_allowed, some_allowed, there_time}
 use Rattle.track9.proofs.PanelLemmas.{panel_off}
 use Rattle.track9.proofs.PartLemmas.{a_state, any_way, impossible, in_pairs, live_some, part_whole, possible, put, put_in, put_same, some_live, some_way, state_live}
 
@@ -50,12 +50,8 @@ has_modes : (pick : Mode → Mode → Mode) (f : List ModeSet → ModeSet) (v : 
     → ((p : List ModeSet) (n : Mode) → has (f p).0 n ≡ true ↔ ((g m : Mode) × (has_pair p g m ≡ true) × (pick g m ≡ n)))
     → AreWhole (rate_for v) v → HasModes (Possible v) (λ (s : State). pick s.goal s.shown) (all_of f v)
 has_modes pick f v exactly whole = record {
-  there = λ s i. (some_part f v _).1 (
-    s.local,
-    s.panel,
-    (exactly (part_of v s.local s.panel).pairs _).1
-        (s.goal, s.shown, (impossible v s s.local s.panel refl refl i).pair, refl),
-  );
+  there = λ s i. let p = part_of v s.local s.panel in
+      (some_part f v _).1 (s.local, s.panel, (exactly p.pairs _).1 (s.goal, s.shown, (impossible v s s.local s.panel refl refl i).pair, refl));
   back = λ n h.
       let a = (some_part f v n).0 h in let p = (exactly (part_of v a.0 a.1).pairs n).0 a.2 in
       let w = pair_state v a.0 a.1 p.0 p.1 whole p.2 in (w.0, w.1, rw (w.2, w.3) p.3);
@@ -105,13 +101,9 @@ panel_known v whole live = fact_known (Possible v) (λ (s : State). s.panel) (λ
 
 -- ---- one set of entries
 
-pub at_same : (t u : ℕ) → At t ≡ At u → t ≡ u
-at_same t u e = cc
-
 -- no time: all are Clear
 pub knows_clear : (es : Entries) → es.times ≡ set.empty → KnowsOf (Allows es) entry.Clear
-knows_clear es none Clear a = refl
-knows_clear es none (At t) a = from_empty t (subst (λ s. set.contains s t ≡ true) none a)
+knows_clear es none e a = grind (arith, set.contains-empty nat_cmp)
 
 -- one time and not Clear
 pub knows_at : (es : Entries) (t : ℕ) → es.may_clear ≡ false → es.times ≡ just t → KnowsOf (Allows es) (entry.At t)
@@ -120,29 +112,19 @@ knows_at es t clear one = grind (arith, false≢true, eqb-true, contains-just)
 -- ---- a time beside another
 
 only_one : (s : Times) (a : ℕ) → set.contains s a ≡ true → is_nil (set.items (set.remove s a)) ≡ true → s ≡ just a
-only_one s a there none = same_times s (just a) (λ f.
-    let gone : set.contains (set.remove s a) f ≡ false = ap (λ x. set.contains x f) (nil_empty (set.remove s a) none) ∙ set.contains-empty nat_cmp f in
-    grind (arith, nat_tests, contains-just, contains-remove_nat))
-
-same_eqb : (a b : ℕ) → a ≡ b → eqb b a ≡ true
-same_eqb a b e = grind (arith, nat_tests)
+only_one s a there none = same_times s (just a) (λ f. grind (arith, nat_tests, nil_empty (set.remove s a) none, set.contains-empty nat_cmp, contains-just, contains-remove_nat s a f))
 
 second : (s : Times) (a : ℕ) → set.contains s a ≡ true → (s ≡ just a → ⊥) → (b : ℕ) × (set.contains s b ≡ true) × (a ≢ b)
-second s a there other =
-    let w = there_time (set.remove s a) (false_from_ne_true _ (λ none. other (only_one s a there none))) in
-    let both = and_parts (not (eqb w.0 a)) (set.contains s w.0) (sym (contains-remove_nat s a w.0) ∙ w.1) in
-    (w.0, both.1, λ e. false≢true (sym (ap not (same_eqb a w.0 e)) ∙ both.0))
+second s a there other = let w = there_time (set.remove s a) (false_from_ne_true _ (λ none. other (only_one s a there none))) in
+    (w.0, grind (arith, contains-remove_nat s a w.0, w.1), λ e. grind (arith, contains-remove_nat s a w.0, w.1, nat_tests))
 
 -- not Clear, and not one time alone
 pub knows_set : (es : Entries) → es.may_clear ≡ false → some_entry es ≡ true → ((t : ℕ) → es.times ≡ just t → ⊥) → KnowsOf (Allows es) entry.SetSomewhere
-knows_set es clear some not_one = (all, two (some_allowed es some))
+knows_set es clear some not_one = (λ e a. grind arith, two (some_allowed es some))
   where
-    all : (e : Entry) → Allows es e → is_set e ≡ true
-    all e a = grind arith
-
     two : (e : Entry) × Allows es e → (d e : Entry) × Allows es d × Allows es e × (d ≢ e)
     two (Clear, a) = absurd (false≢true (sym clear ∙ a))
-    two (At t, a) = let w = second es.times t a (not_one t) in (At t, At w.0, a, w.1, λ e. w.2 (at_same t w.0 e))
+    two (At t, a) = let w = second es.times t a (not_one t) in (At t, At w.0, a, w.1, λ e. w.2 (cc))
 
 -- Clear, or a time
 pub knows_nothing : (es : Entries) → es.may_clear ≡ true → (es.times ≡ set.empty → ⊥) → KnowsOf (Allows es) entry.Unknown
@@ -154,18 +136,6 @@ knows_nothing es clear some = (clear, let w = there_time es.times (false_from_ne
 abbrev Either : (Bool → Entry → Type 0) → Entry → Type 0
 Either E e = (b : Bool) × E b e
 
--- what is true of the entries of both is true of those of either
-both_ways_hold : (E : Bool → Entry → Type 0) (P : Entry → Type 0) → ((e : Entry) → E false e → P e) → ((e : Entry) → E true e → P e) → (e : Entry) → Either E e
-    → P e
-both_ways_hold E P h k e given = grind arith
-
-knows_same : (E F : Entry → Type 0) → ((e : Entry) → E e → F e) → ((e : Entry) → F e → E e) → (k : KnownEntry) → KnowsOf E k → KnowsOf F k
-knows_same E F there back k h = grind arith
-
-knows_joined : (E : Bool → Entry → Type 0) (k l : KnownEntry) → ((e : Entry) × E false e) → ((e : Entry) × E true e) → KnowsOf (E false) k → KnowsOf (E true) l
-    → KnowsOf (Either E) (joined_known k l)
-knows_joined E k l some other h given = grind arith
-
 -- what is known of entries, of which there may be none
 Knows : (Entry → Type 0) → Option KnownEntry → Type 0
 Knows E None = (e : Entry) → E e → ⊥
@@ -173,18 +143,10 @@ Knows E (Some k) = ((e : Entry) × E e) × KnowsOf E k
 
 knows_either : (E : Bool → Entry → Type 0) (a b : Option KnownEntry) → Knows (E false) a → Knows (E true) b → Knows (Either E) (join_options a b)
 unfolding Knows
-knows_either E None None h k = both_ways_hold E (λ e. ⊥) h k
-knows_either E None (Some l) h k = (
-  (k.0.0, (true, k.0.1)),
-  knows_same (E true) (Either E) (λ e y. (true, y))
-      (both_ways_hold E (E true) (λ e x. absurd (h e x)) (λ e y. y)) l k.1,
-)
-knows_either E (Some l) None h k = (
-  (h.0.0, (false, h.0.1)),
-  knows_same (E false) (Either E) (λ e x. (false, x))
-      (both_ways_hold E (E false) (λ e x. x) (λ e y. absurd (k e y))) l h.1,
-)
-knows_either E (Some m) (Some l) h k = ((h.0.0, (false, h.0.1)), knows_joined E m l h.0 k.0 h.1 k.1)
+knows_either E None None h k = λ e (b, x). (elim b as (λ b. E b e → ⊥) [ false ↦ h e | true ↦ k e ]) x
+knows_either E None (Some l) h k = ((k.0.0, (true, k.0.1)), grind (arith, h, k.1))
+knows_either E (Some l) None h k = ((h.0.0, (false, h.0.1)), grind (arith, k, h.1))
+knows_either E (Some m) (Some l) h k = ((h.0.0, (false, h.0.1)), grind (arith, h, k))
 
 -- ---- all parts
 
@@ -236,10 +198,8 @@ remains_where v whole = (λ h. live_some (rate_for v) v whole h, λ w. some_live
 -- ---- after an exchange
 
 dead_few : (n : Presets) (v : States) → AreWhole (rate_for v) v → states_remain v ≡ false → AreFew n v
-dead_few n v whole dead pn l r =
-    let dead_in : part_remains (part_of v l pn) ≡ false = false_from_ne_true _ (λ live.
-    let w = live_state v l pn whole live in false≢true (sym dead ∙ some_live v w.0 w.1)) in
-    rw (no_times (entries_of r (part_of v l pn)) ((part_whole (rate_for v) v whole l pn r).0 ∙ dead_in)) (omega (arith, begin_count-empty (entries_of r (part_of v l pn)).rate))
+dead_few n v whole dead pn l r = let none = nil_empty (entries_of r (part_of v l pn)).times in
+    grind (arith, none, part_whole (rate_for v) v whole l pn r, begin_count-empty (entries_of r (part_of v l pn)).rate, live_state v l pn whole, some_live v, dead)
 
 pub whole_at_rate : (p : Profile) (w : States) → profile_of p.deck w ≡ p → AreWhole p.rate w → AreWhole (rate_for w) w
 whole_at_rate p w same whole = subst (λ rate. AreWhole rate w) (sym (ap (λ (p : Profile). p.rate) same)) whole
@@ -258,33 +218,22 @@ most_spans v r = max (max (spans_in v r false false) (spans_in v r true false)) 
 
 -- the times of a register in a part are those of its states
 are_times : (v : States) (r : Register) (l pn : Bool) → AreWhole (rate_for v) v → AreTimes (Possible v) r l pn (entries_of r (part_of v l pn)).times
-are_times v r l pn whole t = (
-  λ there. part_of_entry v r l pn (At t) whole there,
-  λ w. subst (λ e. Allows (entries_of r (part_of v l pn)) e) w.4 ((impossible v w.0 l pn w.2 w.3 w.1).registers r),
-)
+are_times v r l pn whole t = grind (arith, part_of_entry, impossible)
 
--- the greater of two, and of four
-most_of : (f : Bool → ℕ) (n : ℕ) → n ≡ max (f false) (f true) → (b : Bool) × (f b ≡ n)
-most_of f n e = let w : (f false ≡ n) ⊎ (f true ≡ n) = grind arith in elim w [ inl p ↦ (false, p) | inr p ↦ (true, p) ]
-
+-- the greatest of four
 is_one : (f : Bool → Bool → ℕ) (n : ℕ) → n ≡ max (max (f false false) (f true false)) (max (f false true) (f true true)) → (l pn : Bool) × (f l pn ≡ n)
-is_one f n e = let pn = most_of (λ pn. max (f false pn) (f true pn)) n e in let l = most_of (λ l. f l pn.0) n (sym pn.1) in (l.0, pn.0, l.1)
+is_one f n e = let w : ((f false false ≡ n) ⊎ (f true false ≡ n)) ⊎ ((f false true ≡ n) ⊎ (f true true ≡ n)) = grind arith in
+    elim w [ inl (inl p) ↦ (false, false, p) | inl (inr p) ↦ (true, false, p) | inr (inl p) ↦ (false, true, p) | inr (inr p) ↦ (true, true, p) ]
 
 pub span_count_is : (v : States) (r : Register) (n : ℕ) → AreWhole (rate_for v) v → n ≡ most_spans v r → IsSpanCount (Possible v) r n
 span_count_is v r n whole e = record {
   most = λ l pn times h. subst (λ s. span_count s ≤ n) (let here = are_times v r l pn whole in
-      same_times _ times (λ t. same_test _ _ (λ x. (h t).1 ((here t).0 x)) (λ x. (here t).1 ((h t).0 x)))) (each l pn);
+      same_times _ times (λ t. same_test _ _ (λ x. (h t).1 ((here t).0 x)) (λ x. (here t).1 ((h t).0 x)))) (grind arith);
   met = let w = is_one (spans_in v r) n e in (w.0, w.1, (entries_of r (part_of v w.0 w.1)).times, are_times v r w.0 w.1 whole, w.2);
 }
-  where
-    each : (l pn : Bool) → spans_in v r l pn ≤ n
-    each l pn = grind arith
 
 none_left : (p : ℕ → Bool) → set.len (set.retain (set.empty {R = nat_cmp}) p) ≡ 0
-none_left p =
-    let left : Times = set.retain set.empty p in
-    let same : left ≡ set.empty = same_times left set.empty (λ f. set.contains-retain set.empty p f (λ x tie. ap p (sym (set.nat_cmp-IsAntisymmetric f x tie)))
-    ∙ rw (set.contains-empty nat_cmp f) refl) in
+none_left p = let same = same_times (set.retain set.empty p) set.empty (λ f. grind (arith, contains-retain_nat set.empty p f, set.contains-empty nat_cmp f)) in
     ap (λ (s : Times). set.len s) same ∙ set.len-empty nat_cmp
 
 span_none : span_count set.empty ≡ 0

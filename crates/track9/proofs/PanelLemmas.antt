@@ -1,20 +1,20 @@
 -- All states: complete exchanges, and commands whose reply is not known, also where hands are allowed on the panel.
-use Rattle.track9.proofs.Words.{Everything, Deck}
-use Rattle.track9.proofs.Words.{[], after_panel, all_drifted, all_or_none, AllLeadOn, ap, AreBelow, AreFew, AreReached, AreWhole, BelowDay, Block, Bool}
-use Rattle.track9.proofs.Words.{CanPass, Command, cond_both, counted, counts_after, Does, DoesOrNot, done, Drift, drift_from_pairs, DriftsAndGoes, Effect, effect_of, effect_taken, either_panel, entries_of}
+use Rattle.track9.proofs.Words.{Everything, Deck, nat_cmp}
+use Rattle.track9.proofs.Words.{[], after_panel, all_drifted, all_or_none, AllLeadOn, ap, AreBelow, AreFew, AreReached, AreWhole, Block, Bool}
+use Rattle.track9.proofs.Words.{CanPass, Command, cond_both, counted, counts_after, Does, DoesOrNot, done, Drift, drift_from_pairs, DriftsAndGoes, Effect, effect_of, effect_taken, either_panel}
 use Rattle.track9.proofs.Words.{false, false≢true, first_states, Follows, FollowsDrift, Hands, hands_by, hands_of, has, HasEffect, if◌then◌else◌}
 use Rattle.track9.proofs.Words.{in_local, inl, InPart, inr, InHalves, is_nak, remains_with_panel_on, is_wide, IsIn, AreTracked, IsState}
-use Rattle.track9.proofs.Words.{LeadsOn, None, on_halves, Option, panel_passed, Possible, Presets, presets_after, refl, RegIn}
-use Rattle.track9.proofs.Words.{Register, shown_by, Some, states_remain, State, States, DeckStep, subst, switched, sym, Taken, StepOrPass, true, halves_drifted, halves_of, HalvesBelow, HalvesFew, Halves}
-use Rattle.track9.proofs.Words.{Profile, profile_of, Rate, rate_for, rate_in, untouched, HalvesWhole, with_command, ◌↔◌, ◌∙◌, ◌≡◌, ◌⊎◌}
+use Rattle.track9.proofs.Words.{LeadsOn, None, on_halves, Option, panel_passed, Possible, Presets, presets_after, refl}
+use Rattle.track9.proofs.Words.{shown_by, Some, states_remain, State, States, DeckStep, subst, switched, sym, Taken, StepOrPass, true, halves_drifted, halves_of, HalvesBelow, HalvesFew, Halves}
+use Rattle.track9.proofs.Words.{Profile, Rate, rate_for, rate_in, untouched, HalvesWhole, with_command, ◌↔◌, ◌∙◌, ◌≡◌, ◌⊎◌}
 use Rattle.deck9.specs.declared.effect.Effect.TheVariants as effect
 use Rattle.deck9.specs.declared.sense.Sense.TheVariants as sense
 use Rattle.deck9.specs.declared.state.Hands.TheVariants as hands
 use Rattle.track9.proofs.EffectLemmas.{shows_or_acts, command_counts, drift_leads, leads_as, leads_same, leads_then, presets_of}
-use Rattle.track9.proofs.EntryLemmas.{from_empty}
 use Rattle.track9.proofs.PartLemmas.{drifted_all, all_exactly, both_few, by_panel, drift_below, drift_few, drift_panel, drift_state, drift_whole, few_halves, first_exactly, live_some}
 use Rattle.track9.proofs.PartLemmas.{of_rate, off_drift, halves_rate, whole_in, possible_state, same_drift, some_live, state_is, halves_live, halves_none, halves_state, whole_halves}
 use Rattle.std.proofs.Common.{arith}
+use Rattle.std.specs.FinSet as set
 
 -- a deck of a rate whose panel somebody may touch
 abbrev pub touched : Option Deck → Rate → Profile
@@ -23,10 +23,7 @@ touched deck rate = record { rate = rate; hands = hands.Allowed; deck = deck }
 -- ---- where hands are not allowed
 
 pub take_panel : (deck : Option Deck) (rate : Rate) (c : Command) (reply : Option Block) (s t : State) → DriftsAndGoes (StepOrPass c reply) (untouched deck rate) s t → t.panel ≡ s.panel
-take_panel deck rate c reply s t (d, drift, takes) = by reply takes ∙ drift_panel (untouched deck rate) s d drift
-  where
-    by : (reply : Option Block) → StepOrPass c reply (untouched deck rate) d t → t.panel ≡ d.panel
-    by reply h = grind arith
+take_panel deck rate c reply s t (d, drift, takes) = grind (arith, drift_panel (untouched deck rate) s d drift)
 
 -- then there is nothing with the panel on
 pub none_on : (o : Option Halves) → hands_by o ≡ hands.None → o ≡ None
@@ -48,13 +45,7 @@ leads_off deck rate Goes count keeps h g leads = record {
 
 -- all times of two parts are times of the day
 pub below_off : (h : Halves) → HalvesBelow h → AreBelow (panel_off h)
-below_off h below = record { off = below; on = by }
-  where
-    by : (l : Bool) (r : Register)
-        → BelowDay (entries_of r (in_local (all_or_none (rate_in h) false) l)).rate (entries_of r (in_local (all_or_none (rate_in h) false) l)).times
-    by false RegIn = λ t h. from_empty t h
-    by _ RegIn = λ t h. from_empty t h
-    by _ _ = λ t h. from_empty t h
+below_off h below = record { off = below; on = λ l r t e. grind (arith, set.contains-empty nat_cmp) }
 
 -- ---- where a hand makes no difference to the step
 
@@ -67,24 +58,31 @@ pub record IsNarrow (deck : Option Deck) (rate : Rate) (Goes : Profile → State
   pub panel : (s t : State) → DriftsAndGoes Goes (untouched deck rate) s t → t.panel ≡ s.panel
 
 pub narrow_take : (deck : Option Deck) (rate : Rate) (c : Command) (reply : Option Block) → is_wide (effect_taken deck c reply) ≡ false → IsNarrow deck rate (StepOrPass c reply)
-narrow_take deck rate c reply narrow = record { same = λ h k s t. same h k s t reply narrow; panel = take_panel deck rate c reply }
-  where
-    same : (h k : Hands) (s t : State) (reply : Option Block) → is_wide (effect_taken deck c reply) ≡ false → StepOrPass c reply (deck_of deck rate h) s t
-        → StepOrPass c reply (deck_of deck rate k) s t
-    same h k s t reply narrow given = grind arith
+narrow_take deck rate c reply narrow = record { same = λ h k s t given. grind (arith, narrow); panel = take_panel deck rate c reply }
+
+-- a set of states where hands are allowed
+abbrev pub with_hands : Halves → Halves → States
+with_hands off on = record { off = off; on = Some on }
+
+both_lead : (deck : Option Deck) (Goes : State → State → Type 0) (count : Presets → Presets) (v : States) (off on : Halves) → HalvesWhole (rate_for v) off
+    → HalvesWhole (rate_for v) on → ((n : Presets) → AreFew n v → HalvesFew (count n) off × HalvesFew (count n) on)
+    → AreReached (Possible v) Goes (Possible (with_hands off on)) → AllLeadOn (touched deck (rate_for v)) Goes count v (with_hands off on)
+both_lead deck Goes count v off on whole_off whole_on few reached = record {
+  reached = reached;
+  profile = ap (touched deck) (halves_rate (rate_for v) off whole_off);
+  whole = record { off = whole_off; on = whole_on };
+  few = λ n h. both_few (count n) (with_hands off on) (few n h).0 (few n h).1;
+}
 
 -- a hand leads from a state with the panel on to any
 pub leads_both : (deck : Option Deck) (Goes : Profile → State → State → Type 0) (count : Presets → Presets) (v : States) (off on : Halves) → IsNarrow deck (rate_for v) Goes
     → AreWhole (rate_for v) v → AreBelow v
     → LeadsOn (rate_for v) (DriftsAndGoes Goes (untouched deck (rate_for v))) count v.off off
     → LeadsOn (rate_for v) (DriftsAndGoes Goes (untouched deck (rate_for v))) count (all_or_none (rate_for v) (remains_with_panel_on v)) on
-    → AllLeadOn (touched deck (rate_for v)) (DriftsAndGoes Goes (touched deck (rate_for v))) count v (record { off = off; on = Some on })
-leads_both deck Goes count v off on narrow whole below first second = record {
-  reached = by_panel (DriftsAndGoes Goes (touched deck (rate_for v))) keeps v (record { off = off; on = Some on }) off_reached on_reached;
-  profile = ap (touched deck) (halves_rate (rate_for v) off first.whole);
-  whole = record { off = first.whole; on = second.whole };
-  few = λ n few. both_few (count n) (record { off = off; on = Some on }) (first.few n (few false)) (second.few n (few_halves (rate_for v) n (remains_with_panel_on v)));
-}
+    → AllLeadOn (touched deck (rate_for v)) (DriftsAndGoes Goes (touched deck (rate_for v))) count v (with_hands off on)
+leads_both deck Goes count v off on narrow whole below first second = both_lead deck (DriftsAndGoes Goes (touched deck (rate_for v))) count v off on first.whole second.whole
+    (λ n few. (first.few n (few false), second.few n (few_halves (rate_for v) n (remains_with_panel_on v))))
+    (by_panel (DriftsAndGoes Goes (touched deck (rate_for v))) keeps v (with_hands off on) off_reached on_reached)
   where
     rate : Rate
     rate = rate_for v
@@ -123,32 +121,28 @@ leads_both deck Goes count v off on narrow whole below first second = record {
 wide_step : (deck : Option Deck) (rate : Rate) (c : Command) (reply : Block) (e : Effect) → effect_taken deck c (Some reply) ≡ e → is_wide e ≡ true
     → ((d t : State) → DeckStep (touched deck rate) c reply d t ↔ Does (touched deck rate) e d t) × ((n : Presets) → counted e n ≡ n → presets_after c reply true n ≡ n)
 wide_step deck rate c reply e was wide = (
-  λ d t. (back d t, λ does. done ok.0 (rw asks_nothing tt) (rw ok.1 does)),
-  λ n same. presets_of deck c reply n ok.0
-      ∙ ap (λ e. counted e n) ok.1 ∙ same,
+  λ d t. (λ h. grind (arith, ok, asks_nothing), λ does. done ok.0 (rw asks_nothing tt) (rw ok.1 does)),
+  λ n same. presets_of deck c reply n ok.0 ∙ ap (λ e. counted e n) ok.1 ∙ same,
 )
   where
     ok : (is_nak reply ≡ false) × (effect_of deck c ≡ e)
-    ok = by (is_nak reply) refl was
-      where
-        by : (b : Bool) → is_nak reply ≡ b → (if b then effect.Nothing else effect_of deck c) ≡ e → (is_nak reply ≡ false) × (effect_of deck c ≡ e)
-        by false nak is = (nak, is)
-        by true nak is = absurd (false≢true (ap is_wide is ∙ wide))
+    ok = cond_both (is_nak reply) effect.Nothing (effect_of deck c) (λ x. x ≡ e → (is_nak reply ≡ false) × (effect_of deck c ≡ e))
+        (λ nak is. absurd (false≢true (ap is_wide is ∙ wide))) (λ ack is. (ack, is)) was
 
     asks_nothing : shown_by c reply ≡ sense.Nothing
-    asks_nothing = elim (shows_or_acts deck c reply) [ inl e ↦ e | inr none ↦ absurd (false≢true (ap is_wide (sym none ∙ ok.1) ∙ wide)) ]
-
-    back : (d t : State) → DeckStep (touched deck rate) c reply d t → Does (touched deck rate) e d t
-    back d t h = grind arith
+    asks_nothing = grind (arith, shows_or_acts deck c reply, ok)
 
 -- a drift alone
-all_drift : (deck : Option Deck) (v : States) → AreWhole (rate_for v) v → AreBelow v
-    → AllLeadOn (touched deck (rate_for v)) (DriftsAndGoes (λ p s t. t ≡ s) (touched deck (rate_for v))) (λ n. n) v (all_drifted deck v)
-all_drift deck v whole below = leads_both deck (λ p s t. t ≡ s) (λ n. n) v (halves_drifted deck v.off) (all_or_none rate (remains_with_panel_on v))
-    (record { same = λ h k s t e. e; panel = λ s t w. ap (λ (u : State). u.panel) w.2 ∙ drift_panel (untouched deck rate) s w.0 w.1 }) whole below
-    (stays v.off whole.off)
-    (subst (λ g. LeadsOn rate (DriftsAndGoes (λ p s t. t ≡ s) (untouched deck rate)) (λ n. n) (all_or_none rate (remains_with_panel_on v)) g)
-    (drifted_all deck rate (remains_with_panel_on v)) (stays (all_or_none rate (remains_with_panel_on v)) (whole_halves rate (remains_with_panel_on v))))
+pub follows_drift : (deck : Option Deck) (v : States) → AreWhole (rate_for v) v → AreBelow v → FollowsDrift (touched deck (rate_for v)) v (all_drifted deck v)
+follows_drift deck v whole below = record {
+  reached = (
+    λ t i. let w = all.reached.0 t i in (w.0, w.1, subst (Drift (touched deck rate) w.0) (sym w.2.2) w.2.1),
+    λ s t i drift. all.reached.1 s t i (t, drift, refl),
+  );
+  profile = all.profile;
+  whole = all.whole;
+  few = all.few;
+}
   where
     rate : Rate
     rate = rate_for v
@@ -157,16 +151,10 @@ all_drift deck v whole below = leads_both deck (λ p s t. t ≡ s) (λ n. n) v (
     stays h whole = leads_then rate (Drift (untouched deck rate)) (λ s t. t ≡ s) (λ n. n) (λ n. n) h (halves_drifted deck h) (halves_drifted deck h) (drift_leads deck rate h whole)
         (leads_same rate (halves_drifted deck h) (drift_whole deck rate h whole))
 
-pub follows_drift : (deck : Option Deck) (v : States) → AreWhole (rate_for v) v → AreBelow v → FollowsDrift (touched deck (rate_for v)) v (all_drifted deck v)
-follows_drift deck v whole below = let a = all_drift deck v whole below in record {
-  reached = (
-    λ t i. let w = a.reached.0 t i in (w.0, w.1, subst (Drift (touched deck (rate_for v)) w.0) (sym w.2.2) w.2.1),
-    λ s t i drift. a.reached.1 s t i (t, drift, refl),
-  );
-  profile = a.profile;
-  whole = a.whole;
-  few = a.few;
-}
+    all : AllLeadOn (touched deck rate) (DriftsAndGoes (λ p s t. t ≡ s) (touched deck rate)) (λ n. n) v (all_drifted deck v)
+    all = let on = all_or_none rate (remains_with_panel_on v) in leads_both deck (λ p s t. t ≡ s) (λ n. n) v (halves_drifted deck v.off) on
+        (record { same = λ h k s t e. e; panel = λ s t w. ap (λ (u : State). u.panel) w.2 ∙ drift_panel (untouched deck rate) s w.0 w.1 }) whole below (stays v.off whole.off)
+        (subst (LeadsOn rate (DriftsAndGoes (λ p s t. t ≡ s) (untouched deck rate)) (λ n. n) on) (drifted_all deck rate (remains_with_panel_on v)) (stays on (whole_halves rate (remains_with_panel_on v))))
 
 -- ---- the panel is switched
 
@@ -178,32 +166,17 @@ in_panel h t b i = grind arith
 switched_exactly : (rate : Rate) (on : Bool) (h : Halves) (t : State) → Possible (switched rate on h) t ↔ InHalves on h t
 switched_exactly rate on h t = grind arith
 
-switched_keeps : (deck : Option Deck) (rate : Rate) (on : Bool) (h : Halves) → HalvesWhole rate h → (profile_of deck (switched rate on h) ≡ touched deck rate) × AreWhole rate (switched rate on h)
-    × ((n : Presets) → HalvesFew n h → AreFew n (switched rate on h))
-switched_keeps deck rate false h whole = (
-  ap (touched deck) (halves_rate rate h whole),
-  record { off = whole; on = whole_halves rate false },
-  λ n few. both_few n (switched rate false h) few (few_halves rate n false),
-)
-switched_keeps deck rate true h whole =
-    (refl, record { off = whole_halves rate false; on = whole }, λ n few. both_few n (switched rate true h) (few_halves rate n false) few)
-
 either_whole : (deck : Option Deck) (v : States) → AreWhole (rate_for v) v → HalvesWhole (rate_for v) (either_panel deck v)
-either_whole deck v whole = cond_both (remains_with_panel_on v) (all_or_none (rate_for v) true) (halves_drifted deck v.off) (HalvesWhole (rate_for v))
-    (λ on. whole_halves (rate_for v) true) (λ off. drift_whole deck (rate_for v) v.off whole.off)
+either_whole deck v whole = grind (arith, whole_halves (rate_for v) true, drift_whole deck (rate_for v) v.off whole.off)
 
 either_few : (deck : Option Deck) (v : States) (n : Presets) → AreFew n v → HalvesFew n (either_panel deck v)
-either_few deck v n few = cond_both (remains_with_panel_on v) (all_or_none (rate_for v) true) (halves_drifted deck v.off) (HalvesFew n) (λ on. few_halves (rate_for v) n true)
-    (λ off. drift_few deck n v.off (few false))
+either_few deck v n few = grind (arith, few_halves (rate_for v) n true, drift_few deck n v.off (few false))
 
 -- a state that a drift leads to is one of those put together whatever the panel, and each of them is one, with some value of the panel
 either_to : (deck : Option Deck) (v : States) (t : State) (pn : Bool) → IsState (rate_for v) t → IsIn (if pn then (all_drifted deck v).on else Some (all_drifted deck v).off) t
     → InPart (in_local (either_panel deck v) t.local) t
-either_to deck v t true valid i = (elim (remains_with_panel_on v) as (λ b. InPart (in_local (all_or_none (rate_for v) b) t.local) t
-    → InPart (in_local (if b then all_or_none (rate_for v) true else halves_drifted deck v.off) t.local) t)
-    [ true ↦ λ i. i | false ↦ λ i. halves_none (rate_for v) t i ]) i
-either_to deck v t false valid i = cond_both (remains_with_panel_on v) (all_or_none (rate_for v) true) (halves_drifted deck v.off) (λ h. InPart (in_local h t.local) t)
-    (λ on. (all_exactly (rate_for v) true t).1 (refl, valid)) (λ off. i)
+either_to deck v t pn valid i = cond_both (remains_with_panel_on v) (all_or_none (rate_for v) true) (halves_drifted deck v.off) (λ h. InPart (in_local h t.local) t)
+    (λ on. (all_exactly (rate_for v) true t).1 (refl, valid)) (λ off. grind (arith, i, off, all_exactly (rate_for v) false t))
 
 either_from : (deck : Option Deck) (v : States) (t : State) → InPart (in_local (either_panel deck v) t.local) t → (pn : Bool) × Possible (all_drifted deck v) (record t { panel = pn })
 either_from deck v t i = (elim (remains_with_panel_on v) as (λ b. InPart (in_local (if b then all_or_none (rate_for v) true else halves_drifted deck v.off) t.local) t
@@ -212,37 +185,36 @@ either_from deck v t i = (elim (remains_with_panel_on v) as (λ b. InPart (in_lo
 
 panel_reached : (deck : Option Deck) (on : Bool) (v : States) → AreWhole (rate_for v) v → AreBelow v
     → AreReached (Possible v) (DriftsAndGoes (λ p. Does p (effect.Panel on)) (touched deck (rate_for v))) (Possible (after_panel deck on v))
-panel_reached deck on v whole below = let drifts = (all_drift deck v whole below).reached in (
+panel_reached deck on v whole below = let drifts = (follows_drift deck v whole below).reached in (
   λ t i.
       let here = (switched_exactly (rate_for v) on (either_panel deck v) t).0 i in let w = either_from deck v t here.1 in let a = drifts.0 (record t { panel = w.0 }) w.1 in
-      (a.0, a.1, (record t { panel = w.0 }, subst (Drift (touched deck (rate_for v)) a.0) (sym a.2.2) a.2.1, ap (λ b. record t { panel = b }) here.0)),
+      (a.0, a.1, (record t { panel = w.0 }, a.2, ap (λ b. record t { panel = b }) here.0)),
   λ s t i (d, drift, same). rw same ((switched_exactly (rate_for v) on (either_panel deck v) (record d { panel = on })).1 (in_panel (either_panel deck v) d on
-      (either_to deck v d d.panel (drift_state (touched deck (rate_for v)) s d (possible_state (rate_for v) v s whole below i) drift) (drifts.1 s d i (d, drift, refl))))),
+      (either_to deck v d d.panel (drift_state (touched deck (rate_for v)) s d (possible_state (rate_for v) v s whole below i) drift) (drifts.1 s d i drift)))),
 )
 
 pub follows_panel : (deck : Option Deck) (c : Command) (reply : Block) (on : Bool) (v : States) → effect_taken deck c (Some reply) ≡ effect.Panel on → AreWhole (rate_for v) v → AreBelow v
     → Follows (touched deck (rate_for v)) c (Some reply) v (after_panel deck on v)
-follows_panel deck c reply on v was whole below = let w = wide_step deck (rate_for v) c reply (effect.Panel on) was refl in let keeps =
-    switched_keeps deck (rate_for v) on (either_panel deck v) (either_whole deck v whole) in record {
-      reached = let r = panel_reached deck on v whole below in (
-        λ t i. let a = r.0 t i in (a.0, a.1, (a.2.0, a.2.1, (w.0 a.2.0 t).1 a.2.2)),
-        λ s t i goes. r.1 s t i (goes.0, goes.1, (w.0 goes.0 t).0 goes.2),
-      );
-      profile = keeps.0;
-      whole = keeps.1;
-      few = λ n few. subst (λ m. AreFew m (after_panel deck on v)) (sym (w.1 n refl)) (keeps.2 n (either_few deck v n few));
-    }
+follows_panel deck c reply on v was whole below =
+    let w = wide_step deck (rate_for v) c reply (effect.Panel on) was refl in let goes = panel_reached deck on v whole below in by on (
+      λ t i. let a = goes.0 t i in (a.0, a.1, (a.2.0, a.2.1, (w.0 a.2.0 t).1 a.2.2)),
+      λ s t i step. goes.1 s t i (step.0, step.1, (w.0 step.0 t).0 step.2),
+    ) (λ n few. rw (w.1 n refl) (either_few deck v n few))
+  where
+    by : (on : Bool) → AreReached (Possible v) (DriftsAndGoes (StepOrPass c (Some reply)) (touched deck (rate_for v))) (Possible (after_panel deck on v))
+        → ((n : Presets) → AreFew n v → HalvesFew (presets_after c reply true n) (either_panel deck v))
+        → Follows (touched deck (rate_for v)) c (Some reply) v (after_panel deck on v)
+    by true r few = both_lead deck _ _ v (all_or_none (rate_for v) false) (either_panel deck v) (whole_halves (rate_for v) false) (either_whole deck v whole)
+        (λ n h. (few_halves (rate_for v) _ false, few n h)) r
+    by false r few = both_lead deck _ _ v (either_panel deck v) (all_or_none (rate_for v) false) (either_whole deck v whole) (whole_halves (rate_for v) false)
+        (λ n h. (few n h, few_halves (rate_for v) _ false)) r
 
 -- ---- everything is forgotten
 
 pub first_tracked : (rate : Rate) (h : Hands) (n : Presets) → AreTracked n (first_states rate h)
-first_tracked rate hands.None n = record {
-  whole = record { off = whole_halves rate true; on = whole_halves rate false };
-  few = both_few n (first_states rate hands.None) (few_halves rate n true) (few_halves rate n false);
-}
-first_tracked rate hands.Allowed n = record {
-  whole = record { off = whole_halves rate true; on = whole_halves rate true };
-  few = both_few n (first_states rate hands.Allowed) (few_halves rate n true) (few_halves rate n true);
+first_tracked rate h n = record {
+  whole = grind (arith, whole_halves rate true, whole_halves rate false);
+  few = grind (arith, few_halves rate n true, few_halves rate n false);
 }
 
 pub leads_forgotten : (deck : Option Deck) (Goes : State → State → Type 0) (count : Presets → Presets) (v : States) → hands_of v ≡ hands.Allowed → AreWhole (rate_for v) v
@@ -250,19 +222,13 @@ pub leads_forgotten : (deck : Option Deck) (Goes : State → State → Type 0) (
     → ((n : Presets) → count n ≡ n) → AllLeadOn (touched deck (rate_for v)) Goes count v (if states_remain v then first_states (rate_for v) hands.Allowed else v)
 leads_forgotten deck Goes count v allowed whole there back counts = by (states_remain v) refl
   where
-    every : Profile
-    every = touched deck (rate_for v)
-
-    by : (b : Bool) → states_remain v ≡ b → AllLeadOn every Goes count v (if b then first_states (rate_for v) hands.Allowed else v)
-    by true live = record {
-      reached = (
-        λ t i. let s = live_some (rate_for v) v whole live in (s.0, s.1, there s.0 t ((first_exactly every t).0 i).0),
-        λ s t i goes. (first_exactly every t).1 (back s t i goes, tt),
-      );
-      profile = refl;
-      whole = record { off = whole_halves (rate_for v) true; on = whole_halves (rate_for v) true };
-      few = λ n few. (first_tracked (rate_for v) hands.Allowed (count n)).few;
-    }
+    by : (b : Bool) → states_remain v ≡ b → AllLeadOn (touched deck (rate_for v)) Goes count v (if b then first_states (rate_for v) hands.Allowed else v)
+    by true live = both_lead deck Goes count v (all_or_none (rate_for v) true) (all_or_none (rate_for v) true)
+        (whole_halves (rate_for v) true) (whole_halves (rate_for v) true)
+        (λ n few. (few_halves (rate_for v) (count n) true, few_halves (rate_for v) (count n) true)) (
+          λ t i. let s = live_some (rate_for v) v whole live in (s.0, s.1, there s.0 t ((first_exactly (touched deck (rate_for v)) t).0 i).0),
+          λ s t i goes. (first_exactly (touched deck (rate_for v)) t).1 (back s t i goes, tt),
+        )
     by false dead = record {
       reached = (λ t i. absurd (false≢true (sym dead ∙ some_live v t i)), λ s t i goes. absurd (false≢true (sym dead ∙ some_live v s i)));
       profile = ap (deck_of deck (rate_for v)) allowed;
@@ -289,54 +255,37 @@ passed_effect deck rate c h g whole below has = leads_then rate (Drift (untouche
 -- a state after a passed switch is one of those that stayed, or one of those that the switch leads to
 passed_exactly : (deck : Option Deck) (on : Bool) (v : States) (t : State) → (Possible (panel_passed deck on v) t → Possible (all_drifted deck v) t ⊎ Possible (after_panel deck on v) t)
     × ((IsState (rate_for v) t × Possible (all_drifted deck v) t) ⊎ Possible (after_panel deck on v) t → Possible (panel_passed deck on v) t)
-passed_exactly deck on v t = by on t.panel
-  where
-    In : Bool → States → Type 0
-    In pn v = IsIn (if pn then v.on else Some v.off) t
-
-    by : (on pn : Bool) → (In pn (panel_passed deck on v) → In pn (all_drifted deck v) ⊎ In pn (after_panel deck on v))
-        × ((IsState (rate_for v) t × In pn (all_drifted deck v)) ⊎ In pn (after_panel deck on v) → In pn (panel_passed deck on v))
-    by true false = (λ i. inl i, λ w. elim w [ inl (valid, i) ↦ i | inr i ↦ halves_none (rate_for v) t i ])
-    by false true = (λ i. inl i, λ w. elim w [ inl (valid, i) ↦ i | inr i ↦ halves_none (rate_for v) t i ])
-    by true true = (λ i. inr i, λ w. elim w [ inl (valid, i) ↦ either_to deck v t true valid i | inr i ↦ i ])
-    by false false = (λ i. inr i, λ w. elim w [ inl (valid, i) ↦ either_to deck v t false valid i | inr i ↦ i ])
+passed_exactly deck on v t = grind (arith, either_to deck v t t.panel, all_exactly (rate_for v) false t)
 
 -- the panel may be switched
 pub passed_panel : (deck : Option Deck) (c : Command) (on : Bool) (v : States) → effect_of deck c ≡ effect.Panel on → AreWhole (rate_for v) v → AreBelow v
     → Follows (touched deck (rate_for v)) c None v (panel_passed deck on v)
-passed_panel deck c on v is whole below = let keeps = by on in record {
-  reached = (
-    λ t i. elim ((passed_exactly deck on v t).0 i) [
-      | inl stays ↦ let a = (all_drift deck v whole below).reached.0 t stays in (a.0, a.1, (a.2.0, a.2.1, inl a.2.2))
-      | inr goes ↦ let a = (panel_reached deck on v whole below).0 t goes in (a.0, a.1, (a.2.0, a.2.1, inr (rw is a.2.2)))
-    ],
-    λ s t i (d, drift, can). elim can [
-      | inl e ↦ (passed_exactly deck on v t).1 (inl (
-        subst (IsState (rate_for v)) (sym e) (drift_state (touched deck (rate_for v)) s d (possible_state (rate_for v) v s whole below i) drift),
-        (all_drift deck v whole below).reached.1 s t i (d, drift, e),
-      ))
-      | inr does ↦ (passed_exactly deck on v t).1 (inr ((panel_reached deck on v whole below).1 s t i (d, drift, subst (λ e. Does (touched deck (rate_for v)) e d t) is does)))
-    ],
-  );
-  profile = keeps.0;
-  whole = keeps.1;
-  few = λ n few. subst (λ m. AreFew m (panel_passed deck on v)) (sym (command_counts deck c n ∙ ap (λ e. counted e n) is)) (keeps.2 n few);
-}
+passed_panel deck c on v is whole below = by on (
+  λ t i. elim ((passed_exactly deck on v t).0 i) [
+    | inl stays ↦ let a = drifts.0 t stays in (a.0, a.1, (t, a.2, inl refl))
+    | inr goes ↦ let a = (panel_reached deck on v whole below).0 t goes in (a.0, a.1, (a.2.0, a.2.1, inr (rw is a.2.2)))
+  ],
+  λ s t i (d, drift, can). elim can [
+    | inl e ↦ rw e ((passed_exactly deck on v d).1 (inl (drift_state (touched deck rate) s d (possible_state rate v s whole below i) drift, drifts.1 s d i drift)))
+    | inr does ↦ (passed_exactly deck on v t).1 (inr ((panel_reached deck on v whole below).1 s t i (d, drift, subst (λ e. Does (touched deck rate) e d t) is does)))
+  ],
+)
   where
-    by : (on : Bool) → (profile_of deck (panel_passed deck on v) ≡ touched deck (rate_for v)) × AreWhole (rate_for v) (panel_passed deck on v)
-        × ((n : Presets) → AreFew n v → AreFew n (panel_passed deck on v))
-    by true = (
-      refl,
-      record { off = drift_whole deck (rate_for v) v.off whole.off; on = either_whole deck v whole },
-      λ n few. both_few n (panel_passed deck true v)
-          (drift_few deck n v.off (few false)) (either_few deck v n few),
-    )
-    by false = (
-      ap (touched deck) (halves_rate (rate_for v) (either_panel deck v) (either_whole deck v whole)),
-      record { off = either_whole deck v whole; on = whole_halves (rate_for v) (remains_with_panel_on v) },
-      λ n few. both_few n (panel_passed deck false v) (either_few deck v n few)
-          (few_halves (rate_for v) n (remains_with_panel_on v)),
-    )
+    rate : Rate
+    rate = rate_for v
+
+    drifts : AreReached (Possible v) (Drift (touched deck rate)) (Possible (all_drifted deck v))
+    drifts = (follows_drift deck v whole below).reached
+
+    same : (n : Presets) → with_command c n ≡ n
+    same n = command_counts deck c n ∙ ap (λ e. counted e n) is
+
+    by : (on : Bool) → AreReached (Possible v) (DriftsAndGoes (StepOrPass c None) (touched deck rate)) (Possible (panel_passed deck on v))
+        → Follows (touched deck rate) c None v (panel_passed deck on v)
+    by true = both_lead deck _ _ v (halves_drifted deck v.off) (either_panel deck v) (drift_whole deck rate v.off whole.off) (either_whole deck v whole)
+        (λ n few. rw (same n) (drift_few deck n v.off (few false), either_few deck v n few))
+    by false = both_lead deck _ _ v (either_panel deck v) (all_or_none rate (remains_with_panel_on v)) (either_whole deck v whole) (whole_halves rate (remains_with_panel_on v))
+        (λ n few. rw (same n) (either_few deck v n few, few_halves rate n (remains_with_panel_on v)))
 
 pub follows_forget : (deck : Option Deck) (c : Command) (reply : Option Block) (v : States) → effect_taken deck c reply ≡ effect.Forget Everything → hands_of v ≡ hands.Allowed → AreWhole (rate_for v) v
     → AreBelow v

@@ -3,19 +3,17 @@
 use Rattle.std.proofs.lemmas.Nat.{and_assoc, and_comm}
 use Rattle.std.specs.Int.Bits.{or_add_and}
 use Rattle.track9.proofs.Words.{bit_and, bit_or, Deck}
-use Rattle.track9.proofs.Words.{agreeing, all_entries, all_has, all_or_none, all_pairs, all_states, Allows, and_parts, ap, AreBelow, AreFew, AreReached, AreWhole, arith}
+use Rattle.track9.proofs.Words.{agreeing, all_entries, all_has, all_or_none, all_pairs, all_states, Allows, AreBelow, AreFew, AreReached, AreWhole, arith}
 use Rattle.track9.proofs.Words.{begin_count, begin_count-empty, begin_count-every_time, begin_count-insert, begin_count-just, begin_count-next, begin_count-prev}
 use Rattle.track9.proofs.Words.{begin_count-span_count, begin_count-widened_next, begin_count-widened_prev, BelowDay, Bool, Change, changed_entries, changed_part}
 use Rattle.track9.proofs.Words.{cond_both, count_of, counted, Drift, drift_from_pairs, drifted, drifted_part, drifted_with, Effect, Entries, entries_of, Entry, entry_of, false}
-use Rattle.track9.proofs.Words.{false≢true, first_states, all_shown, Hands, has_pair, if◌then◌else◌, in_local, inl, InPart, inr, InHalves, part_remains, IsEntry, IsFirst, IsIn, IsState}
-use Rattle.track9.proofs.Words.{KeepsRest, List, Mode, modes, ModeSet, Next, no_states, nothing_has, on_halves, one_more, Option, or_cases, PairReaches}
-use Rattle.track9.proofs.Words.{pairs_from_drift, part_of, Part, Possible, Presets, Prev, refl, RegAudioIn, RegAudioOut, RegIn, Register, RegOut, Reset, same_entries, set_entries}
+use Rattle.track9.proofs.Words.{false≢true, first_states, all_shown, has_pair, in_local, inl, InPart, inr, InHalves, part_remains, IsEntry, IsFirst, IsState}
+use Rattle.track9.proofs.Words.{KeepsRest, List, Mode, modes, ModeSet, no_states, nothing_has, on_halves, one_more, Option, or_cases, PairReaches}
+use Rattle.track9.proofs.Words.{pairs_from_drift, part_of, Part, Possible, Presets, refl, RegAudioIn, RegAudioOut, RegIn, Register, RegOut, same_entries, set_entries}
 use Rattle.track9.proofs.Words.{same_test, SetAt, settled, Some, some_entry, some_mode, some_pair, states_remain, halves_remain, span_count-in_day, State, States, subst, sym}
-use Rattle.track9.proofs.Words.{Times, true, halves_drifted, halves_of, HalvesBelow, HalvesFew, Halves, HalvesWhole, Whole, with_entries, with_entry, with_one, with_pairs, ℕ, ◌&&◌, ◌+◌, ◌||◌}
-use Rattle.track9.proofs.Words.{day, first_on, just_of, MayBeOn, Profile, Rate, rate_for, rate_in, rate_of, untouched, with_time, ◌↔◌, ◌∙◌, ◌≡◌, ◌≤◌}
+use Rattle.track9.proofs.Words.{Times, true, halves_drifted, halves_of, HalvesBelow, HalvesFew, Halves, HalvesWhole, Whole, with_entries, with_entry, with_pairs, ℕ, ◌&&◌, ◌+◌, ◌||◌}
+use Rattle.track9.proofs.Words.{just_of, Profile, Rate, rate_for, rate_in, rate_of, untouched, ◌↔◌, ◌∙◌, ◌≡◌, ◌≤◌}
 use Rattle.deck9.specs.declared.effect.Effect.TheVariants as effect
-use Rattle.deck9.specs.declared.state.Hands.TheVariants as hands
-use Rattle.std.proofs.Common.{◌/◌}
 use Rattle.track9.proofs.EntryLemmas.{allowed_some, day_in, drifted_from, drifted_to, goes_from, in_day, no_entry, pair_by_goal, pairs_some, some_allowed}
 
 -- ---- registers
@@ -37,13 +35,11 @@ each_put P r es p old new q = grind arith
 
 -- a state with another entry of a register, in the part with entries of which it is one, and in the part as it was
 pub put_in : (r : Register) (es : Entries) (p : Part) (e : Entry) (s : State) → InPart p s → Allows es e → InPart (with_entries r es p) (with_entry r e s)
-put_in RegIn es p e s i a = record { pair = i.pair; registers = put_each (λ q. Allows) RegIn es p e s i.registers a }
-put_in r es p e s i a = record { pair = i.pair; registers = put_each (λ q. Allows) r es p e s i.registers a }
+put_in r es p e s i a = record { pair = grind (arith, i.pair); registers = put_each (λ q. Allows) r es p e s i.registers a }
 
 pub take_out : (r : Register) (es : Entries) (p : Part) (e : Entry) (s : State) → InPart (with_entries r es p) s → Allows (entries_of r p) e
     → InPart p (with_entry r e s)
-take_out RegIn es p e s i a = put_in RegIn p.ins (with_entries RegIn es p) e s i a
-take_out r es p e s i a = put_in r (entries_of r p) (with_entries r es p) e s i a
+take_out r es p e s i a = record { pair = grind (arith, i.pair); registers = λ q. grind (arith, i.registers q, a) }
 
 pub read_put : (r : Register) (es : Entries) (p : Part) → entries_of r (with_entries r es p) ≡ es
 read_put r es p = grind arith
@@ -83,9 +79,8 @@ not_live p s dead h = absurd (false≢true (sym dead ∙ state_live p s h))
 -- a live part has a state, whatever its local and panel
 pub a_state : (rate : Rate) (p : Part) (l pn : Bool) → Whole rate p → part_remains p ≡ true → (s : State) × InPart p s × (s.local ≡ l) × (s.panel ≡ pn)
 a_state rate p l pn whole live =
-    let m = some_mode (all_shown p.pairs) live in let g = goes_from p.pairs m.0 m.1 in
-    let a = some_allowed p.ins ((whole RegIn).0 ∙ live) in let b = some_allowed p.outs ((whole RegOut).0 ∙ live) in
-    let c = some_allowed p.ains ((whole RegAudioIn).0 ∙ live) in let d = some_allowed p.aouts ((whole RegAudioOut).0 ∙ live) in
+    let m = some_mode (all_shown p.pairs) live in let g = goes_from p.pairs m.0 m.1 in let e = λ (r : Register). some_allowed (entries_of r p) ((whole r).0 ∙ live) in
+    let a = e RegIn in let b = e RegOut in let c = e RegAudioIn in let d = e RegAudioOut in
     let s : State = record { goal = g.0; shown = m.0; ins = a.0; outs = b.0; ains = c.0; aouts = d.0; local = l; panel = pn } in
     (s, record { pair = g.1; registers = each_register _ a.1 b.1 c.1 d.1 }, refl, refl)
 
@@ -99,11 +94,7 @@ pub any_entries : (rate : Rate) (q : List ModeSet) (t : State) → InPart (with_
 any_entries rate q t = grind (arith, entry_exactly)
 
 pub every_state : (rate : Rate) (t : State) → InPart (all_states rate) t ↔ IsState rate t
-every_state rate t = (
-  λ i. ((any_entries rate all_pairs t).0 i).0,
-  λ valid. (any_entries rate all_pairs t).1
-      (valid, pair_by_goal (λ g. modes 0x3FF) t.goal t.shown ∙ all_has t.shown),
-)
+every_state rate t = grind (arith, any_entries rate all_pairs t, pair_by_goal (λ g. modes 0x3FF) t.goal t.shown, all_has t.shown)
 
 pub in_none : {P : Type 0} (rate : Rate) (t : State) → InPart (no_states rate) t → P
 in_none rate t h = absurd (false≢true (sym (pair_by_goal (λ g. modes 0) t.goal t.shown ∙ nothing_has t.shown) ∙ h.pair))
@@ -113,23 +104,15 @@ in_none rate t h = absurd (false≢true (sym (pair_by_goal (λ g. modes 0) t.goa
 pub settled_exactly : (p : Part) (t : State) → InPart (settled p) t ↔ InPart p t
 settled_exactly p t = (
   λ i. cond_both _ p (no_states (rate_of p)) (λ q. InPart q t → InPart p t) (λ e i. i) (λ e i. in_none (rate_of p) t i) i,
-  λ i. let a = i.registers in
-      rw (
-        state_live p t i,
-        allowed_some p.ins _ (a RegIn),
-        allowed_some p.outs _ (a RegOut),
-        allowed_some p.ains _ (a RegAudioIn),
-        allowed_some p.aouts _
-            (a RegAudioOut),
-      ) i,
+  λ i. let some = λ (r : Register). allowed_some (entries_of r p) (entry_of r t) (i.registers r) in
+      grind (arith, i, state_live p t i, some RegIn, some RegOut, some RegAudioIn, some RegAudioOut),
 )
 
 -- ---- each factor of a part keeps something, or none does
 
 pub whole_put : (rate : Rate) (r : Register) (es : Entries) (p : Part) → Whole rate p → some_entry es ≡ part_remains p → es.rate ≡ rate
     → Whole rate (with_entries r es p)
-whole_put rate RegIn es p old new same = each_put (λ q es. (some_entry es ≡ part_remains p) × (es.rate ≡ rate)) RegIn es p old (new, same)
-whole_put rate r es p old new same = each_put (λ q es. (some_entry es ≡ part_remains p) × (es.rate ≡ rate)) r es p old (new, same)
+whole_put rate r es p old new same q = grind (arith, old q, new, same)
 
 pub whole_pairs : (rate : Rate) (q : List ModeSet) (p : Part) → Whole rate p → some_pair q ≡ part_remains p → Whole rate (with_pairs q p)
 whole_pairs rate q p old same = rw same (each_register _ (old RegIn) (old RegOut) (old RegAudioIn) (old RegAudioOut))
@@ -138,8 +121,7 @@ pub whole_all : (rate : Rate) → Whole rate (all_states rate)
 whole_all rate = grind arith
 
 pub whole_none : (rate : Rate) → Whole rate (no_states rate)
-whole_none rate RegIn = (no_entry rate, refl)
-whole_none rate _ = (no_entry rate, refl)
+whole_none rate r = grind (arith, no_entry rate)
 
 -- the entries of each register have the times of one rate
 abbrev pub OfRate : Rate → Part → Type 0
@@ -148,13 +130,12 @@ OfRate rate p = (r : Register) → (entries_of r p).rate ≡ rate
 pub of_rate : (rate : Rate) (p : Part) → Whole rate p → OfRate rate p
 of_rate rate p whole r = (whole r).1
 
+all_five : (a b c d e : Bool) → (a && b && c && d && e) ≡ true → (b ≡ a) × (c ≡ a) × (d ≡ a) × (e ≡ a)
+all_five a b c d e h = grind arith
+
 pub whole_settled : (rate : Rate) (p : Part) → OfRate rate p → Whole rate (settled p)
-whole_settled rate p same = cond_both _ p (no_states (rate_of p)) (Whole rate) (λ e.
-    let d = and_parts (part_remains p && some_entry p.ins && some_entry p.outs && some_entry p.ains) (some_entry p.aouts) e in
-    let c = and_parts (part_remains p && some_entry p.ins && some_entry p.outs) (some_entry p.ains) d.0 in
-    let b = and_parts (part_remains p && some_entry p.ins) (some_entry p.outs) c.0 in
-    let a = and_parts (part_remains p) (some_entry p.ins) b.0 in
-    each_register _ (a.1 ∙ sym a.0, same RegIn) (b.1 ∙ sym a.0, same RegOut) (c.1 ∙ sym a.0, same RegAudioIn) (d.1 ∙ sym a.0, same RegAudioOut))
+whole_settled rate p same = cond_both _ p (no_states (rate_of p)) (Whole rate)
+    (λ e. let w = all_five _ _ _ _ _ e in each_register _ (w.0, same RegIn) (w.1, same RegOut) (w.2, same RegAudioIn) (w.3, same RegAudioOut))
     (λ e. subst (λ other. Whole rate (no_states other)) (sym (same RegIn)) (whole_none rate))
 
 -- a drift leaves a state, and makes none from nothing
@@ -162,21 +143,18 @@ pub drift_some : (deck : Option Deck) (p : List ModeSet) → some_pair (drifted 
 drift_some deck p = same_test (some_pair (drifted deck p)) (some_pair p)
     (λ h. let m = some_mode (all_shown (drifted deck p)) h in let g = goes_from (drifted deck p) m.0 m.1 in
     let w = drifted_from deck p g.0 m.0 (sym (pair_by_goal (drifted_with deck p) g.0 m.0) ∙ g.1) in pairs_some p w.0 w.1 w.2)
-    (λ h. let m = some_mode (all_shown p) h in let g = goes_from p m.0 m.1 in
-    pairs_some (drifted deck p) g.0 m.0 (pair_by_goal (drifted_with deck p) g.0 m.0 ∙ drifted_to deck p g.0 m.0 g.0 m.0 g.1 (inl (refl, inl refl))))
+    (λ h. let m = some_mode (all_shown p) h in let g = goes_from p m.0 m.1 in pairs_some (drifted deck p) g.0 m.0
+    (grind (arith, pair_by_goal (drifted_with deck p) g.0 m.0, drifted_to deck p g.0 m.0 g.0 m.0 g.1)))
 
 -- all pairs stay all pairs
 full : (w : ℕ) → bit_or 0x3FF (bit_and w 0x3FF) ≡ 0x3FF
-full w =
-    let inside : bit_and 0x3FF (bit_and w 0x3FF) ≡ bit_and w 0x3FF = and_comm 0x3FF (bit_and w 0x3FF) ∙ and_assoc 0x3FF w 0x3FF in
-    grind (arith, inside, or_add_and 0x3FF (bit_and w 0x3FF))
+full w = grind (arith, and_comm 0x3FF (bit_and w 0x3FF), and_assoc 0x3FF w 0x3FF, or_add_and 0x3FF (bit_and w 0x3FF))
 
 pub all_drifted_pairs : (deck : Option Deck) → drifted deck all_pairs ≡ all_pairs
 all_drifted_pairs deck = simp full
 
 pub drifted_all : (deck : Option Deck) (rate : Rate) (b : Bool) → halves_drifted deck (all_or_none rate b) ≡ all_or_none rate b
-drifted_all deck rate true = rw (all_drifted_pairs deck) refl
-drifted_all deck rate false = refl
+drifted_all deck rate b = grind (arith, all_drifted_pairs)
 
 pub whole_drift : (deck : Option Deck) (rate : Rate) (p : Part) → Whole rate p → Whole rate (drifted_part deck p)
 whole_drift deck rate p whole = whole_pairs rate (drifted deck p.pairs) p whole (drift_some deck p.pairs)
@@ -184,11 +162,7 @@ whole_drift deck rate p whole = whole_pairs rate (drifted deck p.pairs) p whole 
 -- ---- two parts
 
 pub whole_halves : (rate : Rate) (b : Bool) → HalvesWhole rate (all_or_none rate b)
-whole_halves rate true = record { remote = whole_all rate; local = whole_all rate }
-whole_halves rate false = record { remote = whole_none rate; local = whole_none rate }
-
-pub one_rate : (rate : Rate) (b : Bool) → rate_in (all_or_none rate b) ≡ rate
-one_rate rate b = grind arith
+whole_halves rate b = grind (arith, whole_all rate, whole_none rate)
 
 pub whole_in : (rate : Rate) (h : Halves) → HalvesWhole rate h → (l : Bool) → Whole rate (in_local h l)
 whole_in rate h whole l = grind arith
@@ -201,18 +175,11 @@ halves_rate rate h whole = (whole.remote RegIn).1
 pub own_part : (rate : Rate) (p : Part) → Whole rate p → Whole (rate_of p) p
 own_part rate p whole = subst (λ other. Whole other p) (sym (whole RegIn).1) whole
 
-pub halves_at_rate : (rate : Rate) (h : Halves) → HalvesWhole rate h → HalvesWhole (rate_in h) h
-halves_at_rate rate h whole = subst (λ other. HalvesWhole other h) (sym (halves_rate rate h whole)) whole
-
 pub own_on : (v : States) (h : Halves) → AreWhole (rate_for v) v → v.on ≡ Some h → HalvesWhole (rate_in h) h
-own_on v h whole on = halves_at_rate (rate_for v) h (subst (λ o. HalvesWhole (rate_for v) (on_halves (rate_for v) o)) on whole.on)
-
-pub all_rate : (rate : Rate) (v : States) → AreWhole rate v → rate_for v ≡ rate
-all_rate rate v whole = halves_rate rate v.off whole.off
+own_on v h whole on = grind (arith, halves_rate (rate_for v) h, whole.on)
 
 pub whole_of : (rate : Rate) (v : States) → AreWhole rate v → (pn : Bool) → HalvesWhole rate (halves_of v pn)
-whole_of rate v whole false = whole.off
-whole_of rate v whole true = rw (all_rate rate v whole) whole.on
+whole_of rate v whole pn = grind (arith, halves_rate rate v.off whole.off, whole.off, whole.on)
 
 pub part_whole : (rate : Rate) (v : States) → AreWhole rate v → (l pn : Bool) → Whole rate (part_of v l pn)
 part_whole rate v whole l pn = whole_in rate (halves_of v pn) (whole_of rate v whole pn) l
@@ -233,12 +200,9 @@ few_all_states rate n = grind (arith, begin_count-every_time)
 pub few_no_states : (rate : Rate) (n : Presets) → FewIn n (no_states rate)
 few_no_states rate n = grind (arith, begin_count-empty)
 
--- one time of the day, and one more
+-- one time of the day
 pub few_just : (rate : Rate) (t : ℕ) → begin_count rate (just_of rate t) ≤ 1
 few_just rate t = grind (arith, begin_count-just, begin_count-empty)
-
-few_with : (rate : Rate) (s : Times) (t : ℕ) → begin_count rate (with_time rate s t) ≤ begin_count rate s + 1
-few_with rate s t = grind (arith, begin_count-insert)
 
 pub few_agreeing : (n : ℕ) (o : Option ℕ) (es : Entries) → FewTimes n (agreeing o es)
 few_agreeing n o es = grind (arith, begin_count-empty, few_just)
@@ -251,42 +215,24 @@ abbrev pub counted_to : Change → ℕ → ℕ
 counted_to (SetAt t) n = one_more n
 counted_to _ n = n
 
-half_day : (rate : Rate) → day rate / 2 ≤ 1296000
-half_day rate = grind arith
-
 -- a day has fewer beginnings than can be counted
 few_in_day : (rate : Rate) (s : Times) → BelowDay rate s → begin_count rate s ≤ 1296000
-few_in_day rate s below = omega (arith, begin_count-span_count rate s, span_count-in_day rate s below, half_day rate)
+few_in_day rate s below = grind (arith, begin_count-span_count rate s, span_count-in_day rate s below)
 
 few_changed : (may_stay : Bool) (c : Change) (es : Entries) (n : ℕ) → BelowDay es.rate es.times → FewTimes n es
     → FewTimes (counted_to c n) (changed_entries may_stay c es)
-few_changed false (SetAt t) es n below h = omega (arith, few_just es.rate t)
-few_changed true (SetAt t) es n below h = omega (arith, few_with es.rate es.times t, h, few_in_day es.rate es.times below)
-few_changed false Next es n below h = omega (arith, begin_count-next es.rate es.times below, h)
-few_changed true Next es n below h = omega (arith, begin_count-widened_next es.rate es.times below, h)
-few_changed false Prev es n below h = omega (arith, begin_count-prev es.rate es.times below, h)
-few_changed true Prev es n below h = omega (arith, begin_count-widened_prev es.rate es.times below, h)
-few_changed false Reset es n below h = omega (arith, begin_count-empty es.rate)
-few_changed true Reset es n below h = h
-few_changed _ _ es n below h = omega (arith, begin_count-every_time es.rate)
+few_changed may_stay c es n below h =
+    grind (arith, few_in_day, few_just, begin_count-insert, begin_count-next, begin_count-widened_next, begin_count-prev, begin_count-widened_prev, begin_count-empty, begin_count-every_time)
 
 pub few_settled : (n : Presets) (p : Part) → FewIn n p → FewIn n (settled p)
 few_settled n p h = cond_both _ p (no_states (rate_of p)) (FewIn n) (λ e. h) (λ e. few_no_states (rate_of p) n)
 
 pub few_put : (n : Presets) (r : Register) (es : Entries) (p : Part) → FewIn n p → FewTimes (count_of r n) es → FewIn n (with_entries r es p)
-few_put n r es p old new = each_put (λ q es. FewTimes (count_of q n) es) r es p old new
-
--- a change counts for its register, and no register loses by it
-count_more : (c : Change) (r : Register) (n : Presets) → count_of r (counted (effect.Change r c) n) ≡ counted_to c (count_of r n)
-count_more c r n = grind arith
+few_put n r es p old new q = grind (arith, old q, new)
 
 -- the times of each register are times of the day
 abbrev pub PartBelow : Part → Type 0
 PartBelow p = (r : Register) → BelowDay (entries_of r p).rate (entries_of r p).times
-
--- one preset more
-few_one_more : (n : Presets) (r q : Register) (p : Part) → PartBelow p → FewIn n p → FewTimes (count_of q (with_one r n)) (entries_of q p)
-few_one_more n r q p below h = grind (arith, few_in_day)
 
 -- what has to be known of the times of a part before an effect
 abbrev pub Below : Effect → Part → Type 0
@@ -294,17 +240,15 @@ Below (effect.Change r c) p = PartBelow p
 Below _ p = Unit {0}
 
 pub few_counted : (e : Effect) (n : Presets) (p : Part) → Below e p → FewIn n p → FewIn (counted e n) p
-few_counted e n p below h = grind (arith, few_one_more)
+few_counted e n p below h = grind (arith, few_in_day)
 
 pub few_changed_part : (may_stay : Bool) (r : Register) (c : Change) (n : Presets) (p : Part) → PartBelow p
     → FewIn n p → FewIn (counted (effect.Change r c) n) (changed_part may_stay r c p)
-few_changed_part may_stay r c n p below h = grind (arith, few_put, few_counted, count_more, few_changed)
+few_changed_part may_stay r c n p below h q =
+    grind (arith, few_changed may_stay c (entries_of r p) (count_of r n) (below r) (h r), h q, few_counted (effect.Change r c) n p below h q)
 
 pub few_halves : (rate : Rate) (n : Presets) (b : Bool) → HalvesFew n (all_or_none rate b)
-few_halves rate n true false = few_all_states rate n
-few_halves rate n true true = few_all_states rate n
-few_halves rate n false false = few_no_states rate n
-few_halves rate n false true = few_no_states rate n
+few_halves rate n b l r = grind (arith, few_all_states rate n r, few_no_states rate n r)
 
 pub both_few : (n : Presets) (v : States) → HalvesFew n v.off → HalvesFew n (on_halves (rate_for v) v.on) → AreFew n v
 both_few n v off on = grind arith
@@ -313,42 +257,26 @@ pub few_pairs : (n : Presets) (q : List ModeSet) (p : Part) → FewIn n p → Fe
 few_pairs n q p h = each_register _ (h RegIn) (h RegOut) (h RegAudioIn) (h RegAudioOut)
 
 pub drift_few : (deck : Option Deck) (n : Presets) (h : Halves) → HalvesFew n h → HalvesFew n (halves_drifted deck h)
-drift_few deck n h few false = few_pairs n (drifted deck h.remote.pairs) h.remote (few false)
-drift_few deck n h few true = few_pairs n (drifted deck h.local.pairs) h.local (few true)
+drift_few deck n h few l r = grind (arith, few l r)
 
 pub drift_whole : (deck : Option Deck) (rate : Rate) (h : Halves) → HalvesWhole rate h → HalvesWhole rate (halves_drifted deck h)
 drift_whole deck rate h whole = record { remote = whole_drift deck rate h.remote whole.remote; local = whole_drift deck rate h.local whole.local }
 
 pub drift_below : (deck : Option Deck) (h : Halves) → HalvesBelow h → HalvesBelow (halves_drifted deck h)
-drift_below deck h below false = let b = below false in each_register _ (b RegIn) (b RegOut) (b RegAudioIn) (b RegAudioOut)
-drift_below deck h below true = let b = below true in each_register _ (b RegIn) (b RegOut) (b RegAudioIn) (b RegAudioOut)
+drift_below deck h below l r = grind (arith, below l r)
 
 -- every state is one of all, and none is one of none
 pub all_exactly : (rate : Rate) (b : Bool) (t : State) → InPart (in_local (all_or_none rate b) t.local) t ↔ ((b ≡ true) × IsState rate t)
-all_exactly rate b t = by b t.local
-  where
-    by : (b l : Bool) → InPart (in_local (all_or_none rate b) l) t ↔ ((b ≡ true) × IsState rate t)
-    by true false = (λ i. (refl, (every_state rate t).0 i), λ w. (every_state rate t).1 w.1)
-    by true true = (λ i. (refl, (every_state rate t).0 i), λ w. (every_state rate t).1 w.1)
-    by false false = (λ i. in_none rate t i, λ w. absurd (false≢true w.0))
-    by _ _ = (λ i. in_none rate t i, λ w. absurd (false≢true w.0))
+all_exactly rate b t = grind (arith, every_state rate t, in_none {P = ⊥} rate t)
 
 pub halves_none : {P : Type 0} (rate : Rate) (t : State) → InPart (in_local (all_or_none rate false) t.local) t → P
 halves_none rate t i = absurd (false≢true ((all_exactly rate false t).0 i).0)
-
--- a state is possible exactly where it is in the part of its local and panel
-possible_part : (v : States) (s : State) (pn : Bool) → IsIn (if pn then v.on else Some v.off) s ↔ InPart (part_of v s.local pn) s
-possible_part v s false = (λ h. h, λ h. h)
-possible_part v s true = by v.on
-  where
-    by : (o : Option Halves) → IsIn o s ↔ InPart (in_local (on_halves (rate_for v) o) s.local) s
-    by o = grind arith
 
 pub possible : (v : States) (s : State) (l pn : Bool) → s.local ≡ l → s.panel ≡ pn → InPart (part_of v l pn) s → Possible v s
 possible v s l pn el ep h = grind arith
 
 pub impossible : (v : States) (s : State) (l pn : Bool) → s.local ≡ l → s.panel ≡ pn → Possible v s → InPart (part_of v l pn) s
-impossible v s l pn el ep h = subst (λ b. InPart (part_of v b pn) s) el (subst (λ b. InPart (part_of v s.local b) s) ep ((possible_part v s s.panel).0 h))
+impossible v s l pn el ep h = grind arith
 
 -- the same, of those with one value of the panel
 pub to_halves : (v : States) (s : State) (pn : Bool) → s.panel ≡ pn → Possible v s → InHalves pn (halves_of v pn) s
@@ -372,11 +300,8 @@ by_panel Goes keeps v w off on = (
 
 -- ---- a drift
 
-entry_is : (rate : Rate) (es : Entries) (e : Entry) → es.rate ≡ rate → BelowDay es.rate es.times → Allows es e → IsEntry rate e
-entry_is rate es e same below a = grind arith
-
 pub state_is : (rate : Rate) (p : Part) (s : State) → OfRate rate p → PartBelow p → InPart p s → IsState rate s
-state_is rate p s same below i = λ r. entry_is rate (entries_of r p) (entry_of r s) (same r) (below r) (i.registers r)
+state_is rate p s same below i r = grind (arith, same r, below r, i.registers r)
 
 -- where nobody touches the panel a drift is one of the mechanics
 pub mechanics : (deck : Option Deck) (rate : Rate) (s t : State) → Drift (untouched deck rate) s t → KeepsRest s t × PairReaches deck s.goal s.shown t.goal t.shown
@@ -387,22 +312,15 @@ pub same_drift : (p : Profile) (s t : State) → Drift (untouched p.deck p.rate)
 same_drift p s t d = drift_from_pairs p s t (inl (mechanics p.deck p.rate s t d))
 
 pub off_drift : (p : Profile) (s t : State) → s.panel ≡ false → Drift p s t → Drift (untouched p.deck p.rate) s t
-off_drift p s t off d =
-    elim (pairs_from_drift p s t d) [
-      | inl kept ↦ drift_from_pairs (untouched p.deck p.rate) s t (inl kept)
-      | inr (allowed, on, still, valid) ↦ absurd
-          (false≢true (sym off ∙ on))
-    ]
+off_drift p s t off d = grind (arith, pairs_from_drift, drift_from_pairs, false≢true)
 
 -- a drift keeps the panel
 pub drift_panel : (p : Profile) (s d : State) → Drift p s d → d.panel ≡ s.panel
-drift_panel p s d drift = elim (pairs_from_drift p s d drift)
-    [ inl kept ↦ ap (λ (u : State). u.panel) kept.0 | inr (allowed, before, after, valid) ↦ after ∙ sym before ]
+drift_panel p s d drift = grind (arith, pairs_from_drift p s d drift)
 
 -- and leads from states of the day to such states
 pub drift_state : (p : Profile) (s d : State) → IsState p.rate s → Drift p s d → IsState p.rate d
-drift_state p s d valid drift = elim (pairs_from_drift p s d drift)
-    [ inl kept ↦ same_entries p.rate s d kept.0 valid | inr (allowed, before, after, there) ↦ there ]
+drift_state p s d valid drift = grind (arith, pairs_from_drift p s d drift, same_entries p.rate s d)
 
 -- a state of a set is one of the day
 pub possible_state : (rate : Rate) (v : States) (s : State) → AreWhole rate v → AreBelow v → Possible v s → IsState rate s
@@ -415,7 +333,7 @@ pub any_way : (f : Bool → Bool) (b : Bool) → f b ≡ true → (f false || f 
 any_way f b h = grind arith
 
 pub some_way : (f : Bool → Bool) → (f false || f true) ≡ true → (b : Bool) × (f b ≡ true)
-some_way f h = elim (or_cases _ _ h) [ inl a ↦ (false, a) | inr a ↦ (true, a) ]
+some_way f h = grind (arith, or_cases)
 
 -- a state is in a part that is live, and there is one, with any value of the panel, where a part is live
 pub halves_live : (h : Halves) (s : State) → InPart (in_local h s.local) s → halves_remain h ≡ true
@@ -438,11 +356,4 @@ live_some rate v whole live =
 
 -- the first states
 pub first_exactly : (p : Profile) (s : State) → Possible (first_states p.rate p.hands) s ↔ IsFirst p s
-first_exactly p s = by p.hands s.panel refl
-  where
-    by : (h : Hands) (pn : Bool) → s.panel ≡ pn
-        → IsIn (if pn then first_on p.rate h else Some (all_or_none p.rate true)) s ↔ (IsState p.rate s × MayBeOn h s.panel)
-    by hands.None false off = (λ i. (((all_exactly p.rate true s).0 i).1, off), λ w. (all_exactly p.rate true s).1 (refl, w.0))
-    by hands.None true on = (λ i. absurd i, λ w. absurd (false≢true (sym w.1 ∙ on)))
-    by hands.Allowed false off = (λ i. (((all_exactly p.rate true s).0 i).1, tt), λ w. (all_exactly p.rate true s).1 (refl, w.0))
-    by hands.Allowed true on = (λ i. (((all_exactly p.rate true s).0 i).1, tt), λ w. (all_exactly p.rate true s).1 (refl, w.0))
+first_exactly p s = grind (arith, all_exactly p.rate true s)

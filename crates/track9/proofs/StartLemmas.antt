@@ -1,14 +1,15 @@
 -- The states that a deck may start from, where some fields are known: exactly those, and what a tracker of them keeps.
-use Rattle.track9.proofs.Words.{both, Deck, entries_of, entry_of, goals_of, has-and, HasState, is_some, List, masked, mode_some, Part, Register}
+use Rattle.track9.proofs.Words.{both, Deck, nat_cmp, entries_of, entry_of, goals_of, has-and, HasState, is_some, List, masked, mode_some, Part, Register}
 use Rattle.track9.proofs.EffectLemmas.{masked_has}
-use Rattle.track9.proofs.Words.{Allows, and_from, and_parts, ap, AreBelow, arith, At, begin_count-empty, begin_count-every_time, Bool, Clear}
-use Rattle.track9.proofs.Words.{cond_both, entries_known, Entry, false, false≢true, has, has_pair, if◌then◌else◌, in_local, InPart, is_as_wanted, IsEntry, IsFirst, IsIn}
-use Rattle.track9.proofs.Words.{AreTracked, IsState, Mode, modes, modes_known, ModeSet, no_states, None, nothing_has, Option, pairs_of, part_from, part_known}
-use Rattle.track9.proofs.Words.{Possible, Presets, refl, RegAudioIn, RegAudioOut, RegIn, RegOut, shown_if, Some, Start, StartsFrom, State, states_from}
-use Rattle.track9.proofs.Words.{AreWhole, Rate, rate_for, settled, untouched, subst, sym, true, halves_from, HalvesFew, Whole, ℕ, Is, ◌&&◌, ◌↔◌, ◌∙◌, ◌≡◌}
-use Rattle.track9.proofs.KnownLemmas.{at_same, goal_to}
-use Rattle.track9.proofs.EntryLemmas.{from_empty, just_is, just_self, pairs_have}
-use Rattle.track9.proofs.PartLemmas.{both_few, each_register, entry_exactly, few_just, few_no_states, few_settled, few_halves, FewIn, FewTimes, in_none, of_rate, OfRate, possible, possible_state, settled_exactly, whole_none, whole_settled, whole_halves}
+use Rattle.track9.proofs.Words.{Allows, and_from, and_parts, AreBelow, arith, begin_count-empty, begin_count-every_time, Bool}
+use Rattle.track9.proofs.Words.{cond_both, entries_known, Entry, false, has, has_pair, if◌then◌else◌, in_local, InPart, is_as_wanted, IsEntry, IsFirst, IsIn}
+use Rattle.track9.proofs.Words.{AreTracked, IsState, Mode, modes_known, ModeSet, no_states, None, Option, part_from, part_known}
+use Rattle.track9.proofs.Words.{Possible, Presets, refl, RegAudioIn, RegAudioOut, RegIn, RegOut, Some, Start, StartsFrom, State, states_from}
+use Rattle.track9.proofs.Words.{AreWhole, Rate, rate_for, settled, untouched, subst, sym, true, halves_from, Whole, Is, ◌↔◌, ◌∙◌, ◌≡◌}
+use Rattle.std.specs.FinSet as set
+use Rattle.track9.proofs.KnownLemmas.{goal_to}
+use Rattle.track9.proofs.EntryLemmas.{just_is, just_self, pairs_have}
+use Rattle.track9.proofs.PartLemmas.{both_few, entry_exactly, few_just, few_no_states, few_settled, few_halves, FewIn, in_none, of_rate, OfRate, possible, possible_state, settled_exactly, whole_none, whole_settled, whole_halves}
 
 -- ---- each field
 
@@ -18,20 +19,10 @@ mode_exactly o m = grind arith
 
 -- an entry is as it is known
 entry_is_known : (rate : Rate) (o : Option Entry) (e : Entry) → Allows (entries_known rate o) e → Is o e
-entry_is_known rate None e a = tt
-entry_is_known rate (Some Clear) Clear a = refl
-entry_is_known rate (Some Clear) (At t) a = from_empty t a
-entry_is_known rate (Some (At t)) Clear a = absurd (false≢true a)
-entry_is_known rate (Some (At t)) (At u) a = ap At (just_is rate t u a).1
+entry_is_known rate o e a = grind (arith, set.contains-empty nat_cmp, just_is)
 
 known_entry : (rate : Rate) (o : Option Entry) (e : Entry) → IsEntry rate e → Is o e → Allows (entries_known rate o) e
-known_entry rate o e valid w = grind (arith, entry_exactly, at_same, just_self)
-
-few_known : (rate : Rate) (n : ℕ) (o : Option Entry) → FewTimes n (entries_known rate o)
-few_known rate n o = grind (arith, begin_count-every_time, begin_count-empty, few_just)
-
-known_rate : (rate : Rate) (o : Option Entry) → (entries_known rate o).rate ≡ rate
-known_rate rate o = grind arith
+known_entry rate o e valid w = grind (arith, entry_exactly, just_self)
 
 local_exactly : (o : Option Bool) (b : Bool) → (is_as_wanted o b ≡ true) ↔ Is o b
 local_exactly o b = grind arith
@@ -39,28 +30,17 @@ local_exactly o b = grind arith
 -- ---- a part
 
 part_starts : (rate : Rate) (k : Start) (s : State) → Is k.local s.local → InPart (part_known rate k) s → StartsFrom k s
-part_starts rate k s local i =
-    let both = and_parts (has (modes_known k.goal).0 s.goal) (has (modes_known k.shown).0 s.shown)
-    (sym (pairs_have (modes_known k.goal) (modes_known k.shown) s.goal s.shown) ∙ i.pair) in
-    let r = i.registers in
-    record {
-      goal = (mode_exactly k.goal s.goal).0 both.0;
-      shown = (mode_exactly k.shown s.shown).0 both.1;
-      ins = entry_is_known rate k.ins s.ins (r RegIn);
-      outs = entry_is_known rate k.outs s.outs (r RegOut);
-      ains = entry_is_known rate k.ains s.ains (r RegAudioIn);
-      aouts = entry_is_known rate k.aouts s.aouts (r RegAudioOut);
-      local = local;
-    }
+part_starts rate k s local i = let pair = pairs_have (modes_known k.goal) (modes_known k.shown) s.goal s.shown in let r = i.registers in
+    grind (arith, pair, i.pair, and_parts, mode_exactly, entry_is_known rate, r RegIn, r RegOut, r RegAudioIn, r RegAudioOut)
 
 starts_in : (rate : Rate) (k : Start) (s : State) → IsState rate s → StartsFrom k s → InPart (part_known rate k) s
 starts_in rate k s valid w = grind (arith, pairs_have, and_from, mode_exactly, known_entry)
 
 of_known : (rate : Rate) (k : Start) → OfRate rate (part_known rate k)
-of_known rate k = each_register _ (known_rate rate k.ins) (known_rate rate k.outs) (known_rate rate k.ains) (known_rate rate k.aouts)
+of_known rate k r = grind arith
 
 few_part : (rate : Rate) (n : Presets) (k : Start) → FewIn n (part_known rate k)
-few_part rate n k = each_register _ (few_known rate n.ins k.ins) (few_known rate n.outs k.outs) (few_known rate n.ains k.ains) (few_known rate n.aouts k.aouts)
+few_part rate n k r = grind (arith, begin_count-every_time, begin_count-empty, few_just)
 
 -- ---- the parts with each value of local
 
@@ -68,12 +48,10 @@ by_local : (rate : Rate) (k : Start) (l : Bool) → in_local (halves_from rate k
 by_local rate k l = grind arith
 
 whole_from : (rate : Rate) (k : Start) (l : Bool) → Whole rate (part_from rate k l)
-whole_from rate k l = cond_both (is_as_wanted k.local l) (settled (part_known rate k)) (no_states rate) (Whole rate)
-    (λ e. whole_settled rate (part_known rate k) (of_known rate k)) (λ e. whole_none rate)
+whole_from rate k l r = grind (arith, whole_settled rate (part_known rate k) (of_known rate k) r, whole_none rate r)
 
 few_from : (rate : Rate) (n : Presets) (k : Start) (l : Bool) → FewIn n (part_from rate k l)
-few_from rate n k l = cond_both (is_as_wanted k.local l) (settled (part_known rate k)) (no_states rate) (FewIn n)
-    (λ e. few_settled n (part_known rate k) (few_part rate n k)) (λ e. few_no_states rate n)
+few_from rate n k l r = grind (arith, few_settled n (part_known rate k) (few_part rate n k) r, few_no_states rate n r)
 
 from_starts : (rate : Rate) (k : Start) (s : State) → InPart (part_from rate k s.local) s → StartsFrom k s
 from_starts rate k s i = cond_both (is_as_wanted k.local s.local) (settled (part_known rate k)) (no_states rate) (λ q. InPart q s → StartsFrom k s)
@@ -88,30 +66,26 @@ from_rate rate k = of_rate rate (part_from rate k false) (whole_from rate k fals
 
 -- ---- all states
 
+start_whole : (rate : Rate) (k : Start) → AreWhole (rate_for (states_from rate k)) (states_from rate k)
+start_whole rate k = subst (λ other. AreWhole other (states_from rate k)) (sym (from_rate rate k)) (record {
+  off = record { remote = whole_from rate k false; local = whole_from rate k true };
+  on = whole_halves rate false;
+})
+
 pub start_tracked : (rate : Rate) (k : Start) (n : Presets) → AreTracked n (states_from rate k)
 start_tracked rate k n = record {
-  whole = subst (λ other. AreWhole other (states_from rate k)) (sym (from_rate rate k)) (record {
-    off = record { remote = whole_from rate k false; local = whole_from rate k true };
-    on = whole_halves rate false;
-  });
-  few = both_few n (states_from rate k) by (few_halves (rate_for (states_from rate k)) n false);
+  whole = start_whole rate k;
+  few = both_few n (states_from rate k) (λ l. rw (by_local rate k l) (few_from rate n k l)) (few_halves (rate_for (states_from rate k)) n false);
 }
-  where
-    by : HalvesFew n (halves_from rate k)
-    by false = few_from rate n k false
-    by true = few_from rate n k true
 
 pub start_exactly : (deck : Option Deck) (rate : Rate) (k : Start) (s : State) → AreBelow (states_from rate k)
     → Possible (states_from rate k) s ↔ (IsFirst (untouched deck rate) s × StartsFrom k s)
 start_exactly deck rate k s below = (
   λ i. let valid = subst (λ other. IsState other s) (from_rate rate k)
-      (possible_state (rate_for (states_from rate k)) (states_from rate k) s (start_tracked rate k none_counted).whole below i) in by_panel s.panel refl valid i,
+      (possible_state (rate_for (states_from rate k)) (states_from rate k) s (start_whole rate k) below i) in by_panel s.panel refl valid i,
   λ w. possible (states_from rate k) s s.local false refl w.0.1 (rw (by_local rate k s.local) (starts_from rate k s w.0.0 w.1)),
 )
   where
-    none_counted : Presets
-    none_counted = record { ins = 0; outs = 0; ains = 0; aouts = 0 }
-
     by_panel : (pn : Bool) → s.panel ≡ pn → IsState rate s → IsIn (if pn then None else Some (halves_from rate k)) s → IsFirst (untouched deck rate) s × StartsFrom k s
     by_panel false off valid i = ((valid, off), from_starts rate k s (subst (λ p. InPart p s) (by_local rate k s.local) i))
     by_panel true on valid i = absurd i
@@ -121,9 +95,9 @@ start_exactly deck rate k s below = (
 pub pair_there : (goal shown : Option Mode) (p : List ModeSet) → ((g m : Mode) × (has_pair p g m ≡ true) × Is goal g × Is shown m)
     → is_some (both (goals_of (masked (modes_known shown) p)) (modes_known goal)) ≡ true
 pair_there goal shown p (g, m, pair, first, second) =
-    let there = masked_has (modes_known shown) p g m ∙ and_from _ _ pair ((mode_exactly shown m).1 second) in
-    mode_some (both (goals_of (masked (modes_known shown) p)) (modes_known goal)) g
-    (has-and (goals_of (masked (modes_known shown) p)).0 (modes_known goal).0 g ∙ and_from _ _ (goal_to (masked (modes_known shown) p) g m there) ((mode_exactly goal g).1 first))
+    let left = masked (modes_known shown) p in let has = masked_has (modes_known shown) p g m in let both_have = has-and (goals_of left).0 (modes_known goal).0 g in
+    mode_some (both (goals_of left) (modes_known goal)) g
+    (grind (arith, pair, has, (mode_exactly shown m).1 second, both_have, goal_to left g m, (mode_exactly goal g).1 first))
 
 pub pair_parts : (goal shown : Option Mode) (p : List ModeSet) (g m : Mode) → has_pair (masked (modes_known shown) p) g m ≡ true → has (modes_known goal).0 g ≡ true
     → (has_pair p g m ≡ true) × Is goal g × Is shown m
@@ -141,5 +115,4 @@ entry_known RegAudioOut k = k.aouts
 -- there is no state where a register has no such entry
 pub no_entry_known : (r : Register) (p : Part) (k : Start) (l pn : Bool) → (((e : Entry) × Allows (entries_of r p) e × Is (entry_known r k) e) → ⊥)
     → ((s : State) × HasState p l pn s × StartsFrom k s) → ⊥
-no_entry_known r p k l pn none (s, there, w) =
-    none (entry_of r s, there.inside.registers r, each_register (λ r. Is (entry_known r k) (entry_of r s)) w.ins w.outs w.ains w.aouts r)
+no_entry_known r p k l pn none (s, there, w) = none (entry_of r s, there.inside.registers r, grind arith)

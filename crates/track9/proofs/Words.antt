@@ -14,7 +14,7 @@ pub use Rattle.sets25.proofs.CountLemmas.{begin_count-empty, begin_count-every_t
 pub use Rattle.sets25.proofs.CountLemmas.{begin_count-span_count, begin_count-widened_next, begin_count-widened_prev, contains-remove_nat, span_count-begin_count}
 pub use Rattle.sets25.proofs.CountLemmas.{span_count-in_day}
 pub use Rattle.sets25.proofs.TimesLemmas.{contains-insert_nat, contains-items_nat, contains-just, image_from, image_to, same_test, same_times, with_time-insert, with_time-same, kept_of}
-pub use Rattle.sets25.specs.Working.TimesWhere.{contains-every_time}
+pub use Rattle.sets25.specs.Working.TimesWhere.{contains-every_time, contains-retain_nat}
 pub use Rattle.std.proofs.Common.{[], ap, arith, bit_and, bit_or, Bool, eqb, false, IfNone, IfSome, if◌then◌else◌, inl, inr, IsTrue, List, max, nat_eq, nat_lt, None, not, Option, option_map}
 pub use Rattle.std.proofs.Common.{get_or, length, refl, rules, Some, subst, sym, take, true, ℕ, ◌&&◌, ◌++◌, ◌+◌, ◌<◌, ◌==◌, ◌||◌, ◌↔◌, ◌∙◌, ◌∷◌, ◌≡◌, ◌≢◌, ◌≤◌, ◌⊎◌}
 pub use Rattle.std.proofs.Math.Bool.{and-false, and-true, or-false, or-true, or_assoc}

@@ -1,7 +1,7 @@
 use Rattle.std.proofs.Common.{length, Option, rules}
 use Rattle.std.specs.Int.Bits.{or_zero_r}
 use Rattle.track9.specs.Working.Deck.{Cued, Eject, FastForward, Jog, Play, Rec, Rewind, Shuttle, Var}
-use Rattle.track9.proofs.Words.{cond_both, Deck, either, is_mode, modes, [], by_goal, drifted, drifted_with, false, false_from_ne_true, false≢true, is_some, List, Mode, ModeSet, refl, shown_with, some_mode, some_pair}
+use Rattle.track9.proofs.Words.{arith, Deck, [], by_goal, drifted, drifted_with, false, false_from_ne_true, is_some, List, Mode, ModeSet, refl, shown_with, some_mode, some_pair}
 use Rattle.track9.proofs.Words.{Stop, sym, ◌∙◌, ◌∷◌, ◌≡◌}
 use Rattle.track9.proofs.pairs.Pairs.drift.Goals as goal
 use Rattle.track9.proofs.EntryLemmas.{pairs_some}
@@ -17,15 +17,13 @@ none_drifted deck p ten none = rw (stays Stop, stays Play, stays Rec, stays Fast
     (all_ten p ten)
   where
     none_shown : (g : Mode) → is_some (shown_with p g) ≡ false
-    none_shown g = false_from_ne_true (is_some (shown_with p g))
-        (λ some. let m = some_mode (shown_with p g) some in false≢true (sym none ∙ pairs_some p g m.0 m.1))
+    none_shown g = false_from_ne_true _ (λ some. let m = some_mode (shown_with p g) some in grind (arith, pairs_some p g m.0 m.1))
 
     stays : (g : Mode) → drifted_with deck p g ≡ shown_with p g
-    stays g = rw (none_shown g, none) (cond_both (is_mode g Stop) (either (shown_with p g) (modes 0)) (shown_with p g) (λ s. s ≡ shown_with p g)
-        (λ e. simp or_zero_r) (λ e. refl))
+    stays g = grind (arith, none_shown g, or_zero_r (shown_with p g).0)
 
 pub returns-then-some-clause-some : goal.returns-then-some-clause-some
-returns-then-some-clause-some c = rw (c.is_some-some.ensures, c.drifted.ensures) (sym (drift_some c.args.deck.now c.args.self.now.0))
+returns-then-some-clause-some c = grind (arith, drift_some c.args.deck.now c.args.self.now.0)
 
 pub returns-else-some-clause-drifted : goal.returns-else-some-clause-drifted
 returns-else-some-clause-drifted c = sym (none_drifted c.args.deck.now c.args.self.now.0 (search rules) (sym c.is_some-some.ensures ∙ c.if-some.false))

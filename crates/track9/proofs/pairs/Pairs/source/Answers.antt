@@ -2,7 +2,7 @@ use Rattle.track9.proofs.pairs.Pairs.source.Goals.{else-is_some-via-then-is_some
 use Rattle.track9.proofs.pairs.Pairs.source.Goals as goal
 use Rattle.track9.proofs.BeforeLemmas.{some_goal, some_shown, source_halted}
 use Rattle.track9.proofs.EntryLemmas.{drifted_from, pairs_some}
-use Rattle.track9.proofs.Words.{inl, inr, is_mode-same, or_cases, refl, sym, ◌∙◌}
+use Rattle.track9.proofs.Words.{is_mode-same, or_cases}
 use Rattle.std.proofs.Common.{arith}
 
 pub first-goal-requires : goal.first-goal-requires
@@ -15,13 +15,4 @@ pub returns : goal.returns
 returns = grind (arith, source_halted, else-is_some-via-then-is_some+else-has-2, else-is_some-via-else-is_some)
 
 pub returns-then-has-2 : goal.returns-then-has-2
-returns-then-has-2 c = (
-  rw c.shown-kept.ensures at c.first.ensures,
-  inl (
-    refl,
-    inr (elim (or_cases _ _ (sym (c.or-on_the_way.ensures.has c.args.shown) ∙ sym c.has-then-is_some.ensures ∙ c.if-has-2.true)) [
-      | inl e ↦ inl (is_mode-same c.args.shown c.args.goal (sym (c.just.ensures.one c.args.shown) ∙ e))
-      | inr e ↦ inr (rw c.way.ensures at e)
-    ]),
-  ),
-)
+returns-then-has-2 c = grind (arith, c.or-on_the_way.ensures.has c.args.shown, c.just.ensures.one c.args.shown, is_mode-same c.args.shown c.args.goal, or_cases)

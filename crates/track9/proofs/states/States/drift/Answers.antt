@@ -5,13 +5,11 @@ use Rattle.track9.proofs.PanelLemmas.{deck_of, follows_drift, leads_off, none_on
 use Rattle.track9.proofs.PartLemmas.{drift_panel}
 
 pub returns-in-None-clause-ok : goal.returns-in-None-clause-ok
-returns-in-None-clause-ok g c = rw (
-  ← c.self.view_is,
-  none_on (option_map (λ b. b.value) c.self.inside.on) (ap hands_of c.self.view_is ∙ sym c.hands.ensures ∙ c.in-None.is),
-  c.drift.ensures.drifted,
-)
-    (leads_off c.args.deck.now (rate_in c.self.inside.off) Drift (λ n. n) (drift_panel (untouched c.args.deck.now (rate_in c.self.inside.off))) c.self.inside.off _
-    (drift_leads c.args.deck.now (rate_in c.self.inside.off) c.self.inside.off (subst (λ (v : States). HalvesWhole (rate_for v) v.off) (sym c.self.view_is) c.requires.off)))
+returns-in-None-clause-ok g c =
+    let none = none_on (option_map (λ b. b.value) c.self.inside.on) (ap hands_of c.self.view_is ∙ sym c.hands.ensures ∙ c.in-None.is) in
+    let rate = rate_in c.self.inside.off in
+    rw (← c.self.view_is, none, c.drift.ensures.drifted) (leads_off c.args.deck.now rate Drift (λ n. n) (drift_panel (untouched c.args.deck.now rate)) c.self.inside.off _
+    (drift_leads c.args.deck.now rate c.self.inside.off (subst (λ (v : States). HalvesWhole (rate_for v) v.off) (sym c.self.view_is) c.requires.off)))
 
 pub returns-in-Allowed-clause-ok : goal.returns-in-Allowed-clause-ok
 returns-in-Allowed-clause-ok g c = on_ok_weaker c.drift_by_hand.result (λ new. rw new (subst

@@ -4,20 +4,16 @@ use Rattle.track9.proofs.BeforeLemmas.{if_none_so, no_entry_runs}
 use Rattle.track9.proofs.PartLemmas.{each_register}
 
 pub returns-in_err-pick-clause-none : goal.returns-in_err-pick-clause-none
-returns-in_err-pick-clause-none g c = if_none_so c.from_residual-in_err-pick.result
-    (no_entry_runs c.args.deck.now RegIn c.args.part.now c.args.wanted.now c.args.local false (rw c.entries.ensures at c.in_err-pick.ensures.none))
+returns-in_err-pick-clause-none g c = if_none_so c.from_residual-in_err-pick.result (no_entry_runs c.args.deck.now RegIn _ _ _ false (rw c.entries.ensures at c.in_err-pick.ensures.none))
 
 pub returns-in_err-pick-2-clause-none : goal.returns-in_err-pick-2-clause-none
-returns-in_err-pick-2-clause-none g c = if_none_so c.from_residual-in_err-pick-2.result
-    (no_entry_runs c.args.deck.now RegOut c.args.part.now c.args.wanted.now c.args.local false (rw c.entries-2.ensures at c.in_err-pick-2.ensures.none))
+returns-in_err-pick-2-clause-none g c = if_none_so c.from_residual-in_err-pick-2.result (no_entry_runs c.args.deck.now RegOut _ _ _ false (rw c.entries-2.ensures at c.in_err-pick-2.ensures.none))
 
 pub returns-in_err-pick-3-clause-none : goal.returns-in_err-pick-3-clause-none
-returns-in_err-pick-3-clause-none g c = if_none_so c.from_residual-in_err-pick-3.result
-    (no_entry_runs c.args.deck.now RegAudioIn c.args.part.now c.args.wanted.now c.args.local false (rw c.entries-3.ensures at c.in_err-pick-3.ensures.none))
+returns-in_err-pick-3-clause-none g c = if_none_so c.from_residual-in_err-pick-3.result (no_entry_runs c.args.deck.now RegAudioIn _ _ _ false (rw c.entries-3.ensures at c.in_err-pick-3.ensures.none))
 
 pub returns-in_err-pick-4-clause-none : goal.returns-in_err-pick-4-clause-none
-returns-in_err-pick-4-clause-none g c = if_none_so c.from_residual-in_err-pick-4.result
-    (no_entry_runs c.args.deck.now RegAudioOut c.args.part.now c.args.wanted.now c.args.local false (rw c.entries-4.ensures at c.in_err-pick-4.ensures.none))
+returns-in_err-pick-4-clause-none g c = if_none_so c.from_residual-in_err-pick-4.result (no_entry_runs c.args.deck.now RegAudioOut _ _ _ false (rw c.entries-4.ensures at c.in_err-pick-4.ensures.none))
 
 pub returns-clause-some : goal.returns-clause-some
 returns-clause-some g c =

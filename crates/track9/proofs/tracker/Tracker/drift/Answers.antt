@@ -5,6 +5,5 @@ pub returns-clause-reached : goal.returns-clause-reached
 returns-clause-reached g c = rw (← c.self.view_is) c.in_ok-drift.ensures.ok.reached
 
 pub returns-clause-remains : goal.returns-clause-remains
-returns-clause-remains g c =
-    let reached = c.in_ok-drift.ensures.ok.reached in
-    rw (← c.self.view_is) (λ w. (w.0, reached.1 w.0 w.0 w.1 ([], refl)), λ w. let a = reached.0 w.0 w.1 in (a.0, a.1))
+returns-clause-remains g c = rw (← c.self.view_is)
+    (λ w. (w.0, c.in_ok-drift.ensures.ok.reached.1 w.0 w.0 w.1 ([], refl)), λ w. let a = c.in_ok-drift.ensures.ok.reached.0 w.0 w.1 in (a.0, a.1))

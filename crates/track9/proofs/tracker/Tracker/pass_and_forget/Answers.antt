@@ -1,4 +1,4 @@
-use Rattle.track9.proofs.Words.{AreReached, Forgets, Possible, subst}
+use Rattle.track9.proofs.Words.{arith, AreReached, Forgets, Possible, subst}
 use Rattle.track9.proofs.tracker.Tracker.pass_and_forget.Goals as goal
 use Rattle.track9.proofs.ForgetLemmas.{passes_reached}
 
@@ -11,7 +11,4 @@ returns-clause-reached g c =
     (subst (λ f. AreReached mid (Forgets p f) new) c.requires (subst (λ p. AreReached mid (Forgets p c.args.forgotten) new) c.in_ok-pass.ensures.profile c.in_ok-forget.ensures.reached))
 
 pub returns-clause-remains : goal.returns-clause-remains
-returns-clause-remains g c = (
-  λ w. c.in_ok-forget.ensures.remains.0 (c.in_ok-pass.ensures.remains.0 w),
-  λ w. c.in_ok-pass.ensures.remains.1 (c.in_ok-forget.ensures.remains.1 w),
-)
+returns-clause-remains = grind arith
