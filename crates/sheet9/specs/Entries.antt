@@ -5,20 +5,24 @@ use Rattle.toml.specs.Data.{Data, Members, no_members, member, as_table}
 use Rattle.sheet9.specs.declared.refusal.EntryFault.{EntryFault}
 use Rattle.sheet9.specs.declared.refusal.EntryFault.TheVariants.{NotTwoBytes, Reply, NamedTwice}
 use Rattle.sheet9.specs.declared.refusal.TableName.{TableName}
-use Rattle.sheet9.specs.Head.{is_reply}
+use Rattle.sheet9.specs.declared.refusal.TableName.TheVariants.{Replies}
+use Rattle.sheet9.specs.Head.{head_named, head_or_selector, is_reply}
 use Rattle.sheet9.specs.Refusal.{Fault, NoTable, Entry, and_then}
 
--- a table whose keys name commands: its name, the command that a key names, what is wrong with a command there, and what the value of a
--- key says
+-- a table whose keys name commands: its name, what is wrong with a command there, and what the value of a key says
 pub record CommandTable (A : Type 0) : Type 0 where
   pub name : TableName
-  pub named_by : List ℕ → Option ℕ
   pub unfit : ℕ → Option EntryFault
   pub value_of : List ℕ → Data → Result A Fault
 
+-- the command that a key of a table names: in the table of the replies also one with a selector
+abbrev pub named_by : TableName → List ℕ → Option ℕ
+named_by Replies key = head_or_selector key
+named_by _ key = head_named key
+
 -- the command that a key names
 abbrev pub command_in : {A : Type 0} → CommandTable A → List ℕ → Result ℕ Fault
-command_in table key = named (table.named_by key)
+command_in table key = named (named_by table.name key)
   where
     fitting : ℕ → Option EntryFault → Result ℕ Fault
     fitting head None = Ok head

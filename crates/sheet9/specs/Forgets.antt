@@ -9,7 +9,6 @@ use Rattle.sheet9.specs.declared.refusal.EntryFault.{EntryFault}
 use Rattle.sheet9.specs.declared.refusal.EntryFault.TheVariants.{Sense, NotForgotten}
 use Rattle.sheet9.specs.declared.refusal.TableName.TheVariants.{Forgets}
 use Rattle.sheet9.specs.Entries.{CommandTable}
-use Rattle.sheet9.specs.Head.{head_named}
 use Rattle.sheet9.specs.Refusal.{Entry}
 
 -- the words for what is forgotten
@@ -30,7 +29,6 @@ unfit_to_forget head = if group_of head == 6 && is_listed_head head then Some Se
 abbrev pub forgets_table : CommandTable Forgotten
 forgets_table = record {
   name = Forgets;
-  named_by = head_named;
   unfit = unfit_to_forget;
   value_of = λ key value. ok_or (option_and_then forgotten_named (as_str value)) (Entry Forgets key NotForgotten);
 }

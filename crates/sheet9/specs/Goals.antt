@@ -10,7 +10,6 @@ use Rattle.sheet9.specs.declared.refusal.EntryFault.{EntryFault}
 use Rattle.sheet9.specs.declared.refusal.EntryFault.TheVariants.{EmptyModes, ForgetsMore, HasEffect, NoModes, NotOfTransport}
 use Rattle.sheet9.specs.declared.refusal.TableName.TheVariants.{Goals}
 use Rattle.sheet9.specs.Entries.{CommandTable, command_in, with_entry}
-use Rattle.sheet9.specs.Head.{head_named}
 use Rattle.sheet9.specs.Passes.{with_names}
 use Rattle.sheet9.specs.Refusal.{Fault, NoTable, Entry, and_then}
 
@@ -26,7 +25,7 @@ modes_in key (Some names) = with_names Goals key (modes 0) names
 
 -- what an entry says by itself
 abbrev pub goals_table : CommandTable ModeSet
-goals_table = record { name = Goals; named_by = head_named; unfit = unfit_goal; value_of = λ key value. modes_in key (as_array value) }
+goals_table = record { name = Goals; unfit = unfit_goal; value_of = λ key value. modes_in key (as_array value) }
 
 -- such a command forgets nothing else but the registers
 abbrev pub goes_with : Option Forgotten → Bool

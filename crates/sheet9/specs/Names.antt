@@ -8,7 +8,6 @@ use Rattle.sheet9.specs.declared.refusal.EntryFault.{EntryFault}
 use Rattle.sheet9.specs.declared.refusal.EntryFault.TheVariants.{Listed, NoText, NameCharacter, NameLength, NameStart, NameBlanks}
 use Rattle.sheet9.specs.declared.refusal.TableName.TheVariants.{Names}
 use Rattle.sheet9.specs.Entries.{CommandTable}
-use Rattle.sheet9.specs.Head.{head_named}
 use Rattle.sheet9.specs.Refusal.{Fault, Entry}
 
 -- a character of a name: a capital letter, a digit, a blank (32), + (43), - (45) or / (47)
@@ -50,7 +49,6 @@ name_in key (Some name) = unless (name_fault name)
 abbrev pub names_table : CommandTable (List ℕ)
 names_table = record {
   name = Names;
-  named_by = head_named;
   unfit = λ head. if is_listed_head head then Some Listed else None;
   value_of = λ key value. name_in key (as_str value);
 }

@@ -9,7 +9,6 @@ use Rattle.sheet9.specs.declared.refusal.EntryFault.TheVariants.{NoReplies, Empt
 use Rattle.sheet9.specs.declared.refusal.ItemFault.TheVariants.{NoReply, Command}
 use Rattle.sheet9.specs.declared.refusal.TableName.TheVariants.{Replies}
 use Rattle.sheet9.specs.Entries.{CommandTable}
-use Rattle.sheet9.specs.Head.{head_or_selector}
 use Rattle.sheet9.specs.Refusal.{Fault, Entry, Item, and_then}
 
 -- a form of reply of these parts
@@ -51,7 +50,6 @@ forms_in key (Some items) = with_forms key [] items
 abbrev pub replies_table : CommandTable (List ReplyForm)
 replies_table = record {
   name = Replies;
-  named_by = head_or_selector;
   unfit = λ head. None;
   value_of = λ key value. forms_in key (as_array value);
 }

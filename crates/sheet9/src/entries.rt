@@ -1,10 +1,10 @@
 //! A table whose keys name commands, as `[forgets]`.
 ghost use Rattle.std.specs.Prelude.{◌≡◌, IfOk, IfErr, Ok, [], option_map};
 ghost use Rattle.toml.specs.View.{table_view, view};
-ghost use Rattle.sheet9.specs.Entries.{CommandTable, command_in, entries_of, table_of};
+ghost use Rattle.sheet9.specs.Entries.{CommandTable, command_in, entries_of, named_by, table_of};
 ghost use Rattle.sheet9.specs.Working.{HasSaid, ReportsWithoutLine};
 
-use crate::head::is_reply;
+use crate::head::{head_named, head_or_selector, is_reply};
 use crate::refusal::{EntryFault, Refusal, SheetError, TableName};
 use std::alloc::Global;
 use std::collections::BTreeMap;
@@ -21,10 +21,6 @@ pub(crate) trait EntryValue: Drop + Sized {
     /// The table.
     fn table_name() -> TableName
         ensures { result ≡ table.name };
-
-    /// The command that a key names, by its head, or, in a table that takes selectors, by its head and a selector.
-    fn named_by(key: &[u8]) -> Option<u32>
-        ensures { result ≡ table.named_by key.now };
 
     /// What is wrong with a command in the table, by its head.
     fn unfit(head: u32) -> Option<EntryFault>
@@ -85,7 +81,7 @@ pub(crate) fn command_in<V: EntryValue>(alloc: Global, key: &str) -> Result<u32,
     ensures ok { IfOk result (λ head. command_in V.table key.now ≡ Ok head) }
     ensures err { IfErr result (ReportsWithoutLine (command_in V.table key.now)) }
 {
-    let fault = match V::named_by(key.as_bytes()) {
+    let fault = match named_by(V::table_name(), key.as_bytes()) {
         None => EntryFault::NotTwoBytes,
         Some(head) if is_reply(head) => EntryFault::Reply,
         Some(head) => match V::unfit(head) {
@@ -94,4 +90,14 @@ pub(crate) fn command_in<V: EntryValue>(alloc: Global, key: &str) -> Result<u32,
         },
     };
     Err(SheetError::of_entry(alloc, V::table_name(), key, fault))
+}
+
+/// The command that a key of a table names, by its head; in the table of the replies also by its head and a selector.
+fn named_by(table: TableName, key: &[u8]) -> Option<u32>
+    ensures { result ≡ named_by table key.now }
+{
+    match table {
+        TableName::Replies => head_or_selector(key),
+        _ => head_named(key),
+    }
 }

@@ -5,7 +5,6 @@ ghost use Rattle.toml.specs.View.{view};
 ghost use Rattle.sheet9.specs.Forgets.{forgets_table, forgotten_named};
 
 use crate::entries::EntryValue;
-use crate::head::head_named;
 use crate::refusal::{EntryFault, SheetError, TableName};
 use block9::Command;
 use deck9::Forgotten;
@@ -23,10 +22,6 @@ impl EntryValue for Forgotten {
 
     fn table_name() -> TableName {
         TableName::Forgets
-    }
-
-    fn named_by(key: &[u8]) -> Option<u32> {
-        head_named(key)
     }
 
     fn unfit(head: u32) -> Option<EntryFault> {

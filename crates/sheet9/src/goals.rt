@@ -7,7 +7,6 @@ ghost use Rattle.sheet9.specs.Goals.{goals_in, goals_of, goes_with};
 ghost use Rattle.sheet9.specs.Working.{HasSaid, ReportsWithoutLine};
 
 use crate::entries::{EntryValue, command_in};
-use crate::head::head_named;
 use crate::passes::with_names;
 use crate::refusal::{EntryFault, Refusal, SheetError, TableName};
 use block9::Command;
@@ -28,10 +27,6 @@ impl EntryValue for ModeSet {
 
     fn table_name() -> TableName {
         TableName::Goals
-    }
-
-    fn named_by(key: &[u8]) -> Option<u32> {
-        head_named(key)
     }
 
     fn unfit(head: u32) -> Option<EntryFault> {

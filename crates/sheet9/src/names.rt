@@ -4,7 +4,6 @@ ghost use Rattle.std.specs.List.{list_all};
 ghost use Rattle.sheet9.specs.Names.{begins_with_letter, has_blanks_apart, is_of_name, name_fault};
 
 use crate::entries::EntryValue;
-use crate::head::head_named;
 use crate::refusal::{EntryFault, SheetError, TableName};
 use arrayvec::ArrayVec;
 use block9::Command;
@@ -26,10 +25,6 @@ impl EntryValue for ArrayVec<u8, 24> {
 
     fn table_name() -> TableName {
         TableName::Names
-    }
-
-    fn named_by(key: &[u8]) -> Option<u32> {
-        head_named(key)
     }
 
     fn unfit(head: u32) -> Option<EntryFault> {

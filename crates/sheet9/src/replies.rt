@@ -8,7 +8,7 @@ ghost use Rattle.sheet9.specs.Replies.{count_in, form_in, form_named, with_forms
 ghost use Rattle.sheet9.specs.Working.{ReportsWithoutLine};
 
 use crate::entries::EntryValue;
-use crate::head::{byte_of, head_or_selector, hex_digit};
+use crate::head::{byte_of, hex_digit};
 use crate::refusal::{EntryFault, ItemFault, SheetError, TableName};
 use block9::ReplyForm;
 use smallvec::SmallVec;
@@ -31,10 +31,6 @@ impl EntryValue for SmallVec<ReplyForm, 4> {
 
     fn table_name() -> TableName {
         TableName::Replies
-    }
-
-    fn named_by(key: &[u8]) -> Option<u32> {
-        head_or_selector(key)
     }
 
     fn unfit(_head: u32) -> Option<EntryFault> {
