@@ -40,7 +40,8 @@ const VERBS: [Verb; 22] = [
     Verb::Split,
 ];
 
-/// The names of the rates and where they stand, which is part of what `clap` is told.
+/// The rates' names, in a struct for the proof's sake: the invariant of the loop in `whole` needs the place of each name in memory, and
+/// sees it in a local struct alone.
 #[derive(Clone, Copy)]
 struct Names<'a> {
     rates: &'a [&'a str],
