@@ -1,4 +1,4 @@
-//! A text of marks, an SVG or a page, that is written piece by piece: marks of its own, numbers, and foreign text, which is escaped.
+//! The text of an SVG or of a page, written piece by piece: the program's own markup, numbers, and foreign text, which is escaped.
 ghost use Rattle.std.specs.Prelude.{◌≡◌, ◌++◌, ℕ, List, OnOk};
 ghost use Rattle.picture9.specs.Markup.{escape_of, escaped, IsEscaped};
 
@@ -9,10 +9,10 @@ use std::alloc::{AllocError, Global};
 use std::marker::Model;
 use view9::put_fixed;
 
-/// What comes of what takes memory: it may be refused.
+/// The result of what takes memory, which may be refused.
 pub type Done = Result<(), AllocError>;
 
-/// A piece of an SVG or of a page. It remembers whether memory was refused, so that nobody has to ask after each piece: `whole` tells it.
+/// A piece of an SVG or of a page. It remembers whether memory was refused, so that no call has to be checked by itself: `whole` tells.
 #[derive(Drop)]
 pub struct Markup {
     alloc: Global,
@@ -36,7 +36,7 @@ impl Markup {
     ghost use Rattle.std.specs.Fmt.{decimal};
     ghost use Rattle.picture9.specs.Markup.{escaped, IsPut};
 
-    /// Nothing yet.
+    /// An empty piece.
     pub fn new(alloc: Global) -> Markup
         ensures { result ≡ Some [] }
     {
@@ -48,7 +48,7 @@ impl Markup {
         }
     }
 
-    /// Nothing yet, of a picture that stands on a page.
+    /// An empty piece, of a picture that stands on a page.
     pub(crate) fn on_page(alloc: Global) -> Markup
         ensures { result ≡ Some [] }
     {
@@ -65,7 +65,7 @@ impl Markup {
         self.style
     }
 
-    /// Puts marks of one's own, as they are.
+    /// Puts the program's own markup, as it is.
     pub fn put_mark(&mut self, marks: &'static str)
         ensures { IsPut self.old self.new (Some marks.now) }
     {
@@ -79,7 +79,8 @@ impl Markup {
         self.is_short |= put_escaped(&mut self.text, text).is_err();
     }
 
-    /// Puts foreign text that was made beside it. Where memory was refused there, a part is missing here.
+    /// Puts foreign text that was built in a buffer of its own. Where memory was refused for that, the text here counts as incomplete,
+    /// as it does where memory is refused here.
     pub fn put_made(&mut self, text: Result<Vec<u8>, AllocError>)
         ensures made { IfOk text (λ made. IsPut self.old self.new (Some (escaped made.items))) }
         ensures refused { IfErr text (λ refused. self.new ≡ None) }
@@ -90,7 +91,7 @@ impl Markup {
         }
     }
 
-    /// Puts foreign text as it is written by somebody.
+    /// Puts the foreign text that `put` writes into an empty buffer.
     pub fn put_with<F: FnOnce(&mut Vec<u8>) -> Done>(&mut self, put: F)
         requires { F.IsAlwaysCallable put }
         ensures { (text : List ℕ) × IsPut self.old self.new (Some (escaped text)) }
@@ -100,13 +101,13 @@ impl Markup {
         self.put_foreign(text.as_slice());
     }
 
-    /// Puts marks, and then a place in pixels.
+    /// Puts the program's own markup, and then a place, in pixels.
     pub(crate) fn put_place(&mut self, marks: &'static str, place: u64) {
         self.put_mark(marks);
         self.is_short |= put_px(&mut self.text, place).is_err();
     }
 
-    /// Puts marks of one's own, and then a whole number in decimal digits.
+    /// Puts the program's own markup, and then a whole number in decimal digits.
     pub fn put_whole(&mut self, marks: &'static str, number: u64)
         ensures { IsPut self.old self.new (Some (marks.now ++ decimal number)) }
     {
@@ -118,7 +119,7 @@ impl Markup {
         self.is_short |= put_thousands(&mut self.text, number).is_err();
     }
 
-    /// Puts a number with a point before so many of its last digits.
+    /// Puts a number with a decimal point before the last `places` of its digits.
     pub fn put_fixed(&mut self, number: u64, places: u32)
         requires { places ≤ 19 }
     {
@@ -130,14 +131,14 @@ impl Markup {
         self.is_short |= put_hex(&mut self.text, u32::from(byte)).is_err();
     }
 
-    /// Puts what another piece has. Where a part of that is missing, one is missing here.
+    /// Puts the text of another piece. Where that is incomplete, so is this one.
     pub fn put_piece(&mut self, piece: &Markup)
         ensures { IsPut self.old self.new piece.now }
     {
         self.is_short |= piece.is_short || self.text.put(piece.text.as_slice()).is_err();
     }
 
-    /// What text beside it is made with.
+    /// The allocator, for text that is built in a buffer of its own.
     pub fn alloc(&self) -> Global {
         self.alloc
     }

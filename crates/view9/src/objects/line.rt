@@ -23,8 +23,8 @@ const MEMBERS: usize = 24;
 /// Room for the bytes that most lines have.
 const LENGTH: usize = 512;
 
-/// An object, which stands on a line of its own. It remembers whether memory was refused for a member, so that nobody has to ask
-/// after each: `write` tells it.
+/// An object, which stands on a line of its own. It remembers whether memory was refused for a member, so that no call has to be
+/// checked by itself: `write` tells.
 #[derive(Drop)]
 pub(super) struct Line<'a> {
     members: Vec<(&'a str, Told<'a>)>,
@@ -80,12 +80,12 @@ impl<'a> Line<'a> {
         line
     }
 
-    /// Puts a member to the end.
+    /// Puts a member at the end.
     pub(super) fn put(&mut self, name: &'a str, told: Told<'a>) {
         self.is_short |= self.members.push((name, told)).is_err();
     }
 
-    /// Puts a member that is a text, which is put so.
+    /// Puts a member that is the text that `put` writes into an empty buffer.
     pub(super) fn put_text<F: FnOnce(&mut Vec<u8>) -> Result<(), AllocError>>(
         &mut self,
         name: &'a str,
@@ -122,7 +122,7 @@ impl<'a> Line<'a> {
         self.put_some("command", name.map(|name| Told::Word(text_in(name))));
     }
 
-    /// Puts the numbers of the first and the last of so many records, and the time of the first.
+    /// Puts the numbers of the first and the last of `records` records, and the time of the first.
     pub(super) fn put_records(&mut self, last: u64, records: usize, time_us: u64) {
         let first = last.saturating_sub(records as u64).saturating_add(1);
         self.put("first_record", Told::Count(first));
@@ -130,7 +130,7 @@ impl<'a> Line<'a> {
         self.put("time_us", Told::Count(time_us));
     }
 
-    /// Puts how many bytes a block wants, where more are missing than the one that breaks a rule.
+    /// Puts how many bytes the open block is to have, where more of them are missing than the one that breaks a rule.
     pub(super) fn put_length(&mut self, wanted: Option<usize>) {
         self.put_some(
             "block_length",
