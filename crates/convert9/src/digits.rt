@@ -15,6 +15,19 @@ pub(crate) fn number_of(digits: &[u8]) -> u64 {
     digits.iter().fold(0, with_digit)
 }
 
+/// The number from 1 to `most` that a text is: decimal digits, of which the first is no 0.
+pub(crate) fn number_up_to(text: &[u8], most: u64) -> Option<u64> {
+    let (digits, rest) = split_digits(text);
+    let number = number_of(digits);
+    let is_number = rest.is_empty() && matches!(digits, [b'1'..=b'9', ..]);
+    (is_number && number <= most).then_some(number)
+}
+
+/// A number as an `i64`. More than that holds is its limit.
+pub(crate) fn signed(number: u64) -> i64 {
+    i64::try_from(number).unwrap_or(i64::MAX)
+}
+
 /// A number with one more digit behind it.
 pub(crate) fn with_digit(number: u64, byte: &u8) -> u64 {
     number.saturating_mul(10).saturating_add(digit(*byte))

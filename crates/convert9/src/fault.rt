@@ -22,13 +22,13 @@ pub enum ConvertFault {
 pub struct Refusal {
     /// The number of the line, counted from 1; 0 before the first.
     pub line: u64,
-    /// What it is that is wrong.
+    /// In what something is wrong.
     pub wrong: Wrong,
     /// What is wrong, in a line.
     pub text: String,
 }
 
-/// What it is that is wrong.
+/// In what something is wrong.
 #[derive(Clone, Copy, Debug, PartialEq, Eq)]
 pub enum Wrong {
     /// The words of the command line.
@@ -39,16 +39,17 @@ pub enum Wrong {
     Part,
 }
 
-/// That the line with this number is wrong: in what, and as far as it helps, what stands there.
+/// The fault of the line with this number: what is wrong, and, as far as it helps, what stands there.
 pub(crate) fn refused(alloc: Global, line: u64, what: &str, shown: &[u8]) -> ConvertFault {
     told(alloc, line, Wrong::Export, what, shown)
 }
 
-/// That the words are wrong, seen at the line with this number.
+/// The fault of the command line's words, seen at the line with this number.
 pub(crate) fn refused_words(alloc: Global, line: u64, what: &str, shown: &[u8]) -> ConvertFault {
     told(alloc, line, Wrong::Words, what, shown)
 }
 
+/// A refusal with these two texts, or that memory was refused for it.
 fn told(alloc: Global, line: u64, wrong: Wrong, what: &str, shown: &[u8]) -> ConvertFault {
     match text_of(alloc, what, shown) {
         Ok(text) => ConvertFault::Refused(Refusal { line, wrong, text }),
@@ -56,7 +57,7 @@ fn told(alloc: Global, line: u64, wrong: Wrong, what: &str, shown: &[u8]) -> Con
     }
 }
 
-/// Both in one text. Of what is no UTF-8 each part is shown as a replacement character.
+/// What is wrong and what stands there, in one text. Of what is no UTF-8 each part is shown as a replacement character.
 fn text_of(alloc: Global, what: &str, shown: &[u8]) -> Result<String, AllocError> {
     let mut text = String::from_str(alloc, what)?;
     let shown = String::from_utf8_lossy(alloc, shown)?;

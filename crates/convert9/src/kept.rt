@@ -30,7 +30,7 @@ pub(crate) struct Kept {
     /// The time of the last byte on each wire, on the export's clock.
     controller_us: Option<i64>,
     deck_us: Option<i64>,
-    /// How much later a byte is on the capture's clock: whole seconds, so that no time is below 0.
+    /// How much the capture's clock is ahead of the export's: whole seconds, so that no time is below 0.
     later_us: i64,
 }
 
@@ -132,7 +132,7 @@ impl Kept {
     }
 }
 
-/// A time so much later.
+/// A time on the export's clock as one on the capture's, which is `later_us` later.
 pub(crate) fn moved(time_us: i64, later_us: i64) -> Result<u64, KeepFault> {
     match u64::try_from(time_us.saturating_add(later_us)) {
         Ok(us) if us <= MOST_US.unsigned_abs() => Ok(us),

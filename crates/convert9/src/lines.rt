@@ -57,22 +57,22 @@ impl<R: Read + Drop> Lines<R> {
 }
 
 impl Line<'_> {
-    /// That something is wrong in this line, which is shown.
+    /// The fault that something is wrong in this line, which is shown.
     pub(crate) fn refused(&self, what: &str) -> ConvertFault {
         refused(self.alloc, self.number, what, self.text)
     }
 
-    /// That something is wrong at this line, which is not shown.
+    /// The fault that something is wrong at this line, which is not shown.
     pub(crate) fn refused_unshown(&self, what: &str) -> ConvertFault {
         refused(self.alloc, self.number, what, b"")
     }
 
-    /// That the words are wrong, seen at this line.
+    /// The fault of the command line's words, seen at this line.
     pub(crate) fn refused_words(&self, what: &str) -> ConvertFault {
         refused_words(self.alloc, self.number, what, b"")
     }
 
-    /// That a byte of this line can't be kept.
+    /// The fault of a byte of this line that can't be kept.
     pub(crate) fn unkept(&self, fault: KeepFault) -> ConvertFault {
         match fault {
             KeepFault::TooLong => self.refused("a time of more than fifteen digits: "),

@@ -144,7 +144,7 @@ fn convert_into<R: Read + Drop, S: TakesBytes>(
 }
 
 impl Log {
-    /// One of which no line was read.
+    /// Before the first line.
     fn new(alloc: Global) -> Log {
         Log {
             stamps: Stamps::new(),
@@ -202,7 +202,7 @@ impl Waiting {
         (self.number > 0).then_some(self.time_us)
     }
 
-    /// Another line waits.
+    /// Lets another line wait in place of the one before.
     fn become_line(&mut self, line: Line<'_>, time_us: i64) -> Result<(), ConvertFault> {
         self.text.clear();
         self.text.extend_from_slice(line.text)?;

@@ -42,7 +42,7 @@ impl TimeRange {
         self.from_us.is_none() && self.to_us.is_none()
     }
 
-    /// What is wrong with an export that has no byte in the range.
+    /// What is said of an export that has no byte in the range.
     pub(crate) fn without_byte(&self) -> &'static str {
         if self.is_whole() {
             "no byte in the export"
@@ -52,7 +52,7 @@ impl TimeRange {
     }
 }
 
-/// One end of a range: that one is named which is no number of seconds, or the number in microseconds, or that none is named.
+/// The end of a range that a word names, in microseconds: `Some(None)` where it names none, and `None` where it is no number of seconds.
 fn end_named(word: Option<&[u8]>) -> Option<Option<i64>> {
     match word {
         None | Some([]) => Some(None),

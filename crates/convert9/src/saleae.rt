@@ -36,7 +36,7 @@ struct Columns {
     count: usize,
     time: usize,
     byte: usize,
-    /// Two marks of damage; the newer form has one.
+    /// The two columns that mark damage; in the newer form both are its only one.
     mark: usize,
     other_mark: usize,
     /// What a row is; the older form does not say.
@@ -56,7 +56,7 @@ struct Export<'a> {
     wire: Wire,
 }
 
-/// A row of the table, to be told where it is refused.
+/// A row of the table, with what its refusal tells.
 #[derive(Clone, Copy)]
 struct Row<'a> {
     alloc: Global,
@@ -89,7 +89,7 @@ pub fn convert_saleae<R: Read + Drop, W: Write + Drop>(
     kept.write(writer, last, range, Ties::ControllerFirst)
 }
 
-/// Reads the table, and keeps its bytes: the number of its last line.
+/// Reads the table, keeps its bytes, and answers the number of its last line.
 fn read_table<R: Read + Drop>(
     alloc: Global,
     rows: &mut Reader<R>,
@@ -101,11 +101,7 @@ fn read_table<R: Read + Drop>(
     if !read_row(rows, &mut header)? {
         return Ok(0);
     }
-    let head = Row {
-        alloc,
-        number: number_of(&header),
-        fields: &header,
-    };
+    let head = Row::of(alloc, &header);
     let columns = columns_of(&head)?;
     if columns.name.is_some() {
         check_names(&head, words)?;
@@ -117,26 +113,9 @@ fn read_table<R: Read + Drop>(
         columns,
         wire: Wire::Controller,
     };
-    let mut fields = ByteRecord::new(alloc);
-    let mut number = head.number;
-    for _ in 0..u64::MAX {
-        if !read_row(rows, &mut fields)? {
-            break;
-        }
-        number = number_of(&fields);
-        let row = Row {
-            alloc,
-            number,
-            fields: &fields,
-        };
-        if columns.name.is_none() && has_same_fields(&fields, &header) {
-            export.begin_file(&row)?;
-        } else {
-            export.take(&row, kept)?;
-        }
-    }
-    export.check_end(number)?;
-    Ok(number)
+    let last = export.take_all(rows, &head, kept)?;
+    export.check_end(last)?;
+    Ok(last)
 }
 
 /// Reads the next row that is no empty line: false after the last.
@@ -207,7 +186,7 @@ fn columns_of(head: &Row<'_>) -> Result<Columns, ConvertFault> {
     })
 }
 
-/// Refuses words that don't name two analyzers.
+/// Refuses words that don't name two analyzers, as a table with a column of names needs.
 fn check_names(head: &Row<'_>, words: SaleaeWords<'_>) -> Result<(), ConvertFault> {
     let line = Line {
         alloc: head.alloc,
@@ -226,6 +205,30 @@ fn check_names(head: &Row<'_>, words: SaleaeWords<'_>) -> Result<(), ConvertFaul
 }
 
 impl Export<'_> {
+    /// Takes the rows after the header, and answers the number of the last line.
+    fn take_all<R: Read + Drop>(
+        &mut self,
+        rows: &mut Reader<R>,
+        head: &Row<'_>,
+        kept: &mut Kept,
+    ) -> Result<u64, ConvertFault> {
+        let mut last = head.number;
+        let mut fields = ByteRecord::new(self.alloc);
+        for _ in 0..u64::MAX {
+            if !read_row(rows, &mut fields)? {
+                break;
+            }
+            let row = Row::of(self.alloc, &fields);
+            last = row.number;
+            if self.columns.name.is_none() && has_same_fields(&fields, head.fields) {
+                self.begin_file(&row)?;
+            } else {
+                self.take(&row, kept)?;
+            }
+        }
+        Ok(last)
+    }
+
     /// Goes on to the deck's file, whose header this row is.
     fn begin_file(&mut self, row: &Row<'_>) -> Result<(), ConvertFault> {
         if self.wire == Wire::Deck {
@@ -319,6 +322,17 @@ fn has_clock(text: &[u8]) -> bool {
     })
 }
 
+impl<'a> Row<'a> {
+    /// The row that has these fields.
+    fn of(alloc: Global, fields: &'a ByteRecord) -> Row<'a> {
+        Row {
+            alloc,
+            number: number_of(fields),
+            fields,
+        }
+    }
+}
+
 impl Row<'_> {
     /// A field; an empty one where the row has none there. A CR at the end of the row is none of it.
     fn field(&self, place: usize) -> &[u8] {
@@ -333,14 +347,14 @@ impl Row<'_> {
         }
     }
 
-    /// Where the last field stands that is this title.
+    /// Where the last field with this title stands.
     fn find(&self, title: &[u8]) -> Option<usize> {
         (0..self.fields.len())
             .rev()
             .find(|place| self.field(*place) == title)
     }
 
-    /// The same, where there has to be one.
+    /// The same for a column that there has to be.
     fn column(&self, title: &[u8]) -> Result<usize, ConvertFault> {
         match self.find(title) {
             Some(place) => Ok(place),
@@ -348,22 +362,23 @@ impl Row<'_> {
         }
     }
 
-    /// That the header has no column with this title.
+    /// The fault that the header has no column with this title.
     fn without(&self, title: &[u8]) -> ConvertFault {
-        match self.lack_of(title) {
+        match self.without_text(title) {
             Ok(what) => self.refused(what.as_str()),
             Err(_) => ConvertFault::OutOfMemory,
         }
     }
 
-    fn lack_of(&self, title: &[u8]) -> Result<String, AllocError> {
+    /// What is said of that.
+    fn without_text(&self, title: &[u8]) -> Result<String, AllocError> {
         let mut what = String::from_str(self.alloc, "the header has no column '")?;
         what.push_str(String::from_utf8_lossy(self.alloc, title)?.as_str())?;
         what.push_str("': ")?;
         Ok(what)
     }
 
-    /// That something is wrong in this row, whose fields are shown.
+    /// The fault that something is wrong in this row, whose fields are shown.
     fn refused(&self, what: &str) -> ConvertFault {
         match self.text() {
             Ok(text) => self.line(text.as_slice()).refused(what),
@@ -371,7 +386,7 @@ impl Row<'_> {
         }
     }
 
-    /// That its byte can't be kept.
+    /// The fault of a row whose byte can't be kept.
     fn unkept(&self, fault: KeepFault) -> ConvertFault {
         match self.text() {
             Ok(text) => self.line(text.as_slice()).unkept(fault),

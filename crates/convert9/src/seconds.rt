@@ -1,6 +1,6 @@
 //! Seconds in decimal digits, cut to whole microseconds. The digits are what counts: no float is used.
 
-use crate::digits::{number_of, split_digits, with_digit};
+use crate::digits::{number_of, signed, split_digits, with_digit};
 
 /// A decimal number, by its parts.
 #[derive(Clone, Copy)]
@@ -87,7 +87,7 @@ fn us_of(number: &Number<'_>) -> i64 {
     let us = whole.iter().take(places).fold(0, with_digit);
     let us = decimals.iter().take(behind).fold(us, with_digit);
     let us = (decimals.len()..behind).fold(us, |us, _| us.saturating_mul(10));
-    let us = i64::try_from(us).unwrap_or(i64::MAX);
+    let us = signed(us);
     if !number.is_negative {
         return us;
     }

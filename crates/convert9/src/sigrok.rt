@@ -3,7 +3,7 @@
 //!
 //! A byte's time is that of its first sample in the export, which is where the start bit ends, cut to whole microseconds.
 
-use crate::digits::{byte_of, number_of, split_digits};
+use crate::digits::{byte_of, number_of, number_up_to, signed, split_digits};
 use crate::fault::{ConvertFault, refused_words};
 use crate::kept::{Kept, Ties};
 use crate::lines::{Line, Lines};
@@ -27,14 +27,14 @@ pub struct SigrokWords<'a> {
 /// The most samples a second.
 const MOST_SAMPLES: u64 = 1_000_000_000;
 
-/// How many of the lines in which a byte's eight data bits last there are in a second: each bit lasts 1/38400 of it.
+/// How often a second the eight data bits of a byte fit in, at 38,400 bits a second.
 const BYTES_A_SECOND: i64 = 4800;
 
 /// By how many samples a byte's length may be off, whatever the rate.
 const SAMPLES_OFF: i64 = 2;
 
-/// How long after a byte's first bit a mark of the byte stands at most, in microseconds: the parity bit comes eight bits after it, and
-/// the stop bit nine, 234 microseconds.
+/// How long after a byte's first bit a line about damage to that byte may come at most, in microseconds: the parity bit comes eight bits
+/// after it, and the stop bit nine, 234 microseconds.
 const MARKED_US: i64 = 247;
 
 /// What sigrok-cli prints in a line.
@@ -96,11 +96,7 @@ pub fn convert_sigrok<R: Read + Drop, W: Write + Drop>(
 
 /// The number of samples a second that a word names.
 fn samplerate_of(word: Option<&[u8]>) -> Option<u64> {
-    let word = word?;
-    let (digits, rest) = split_digits(word);
-    let samplerate = number_of(digits);
-    let is_number = rest.is_empty() && matches!(digits, [b'1'..=b'9', ..]);
-    (is_number && samplerate <= MOST_SAMPLES).then_some(samplerate)
+    number_up_to(word?, MOST_SAMPLES)
 }
 
 impl Export {
@@ -181,7 +177,7 @@ impl Export {
         signed(seconds.saturating_mul(1_000_000).saturating_add(rest_us))
     }
 
-    /// The time of the byte that an error of this time stands at. One at no byte of the export has its own time.
+    /// The time of the damaged byte that an error of this time is about; the error's own time, where that byte is not in the export.
     fn marked_us(&self, wire: Wire, first_us: i64) -> i64 {
         let last_us = match wire {
             Wire::Controller => self.controller_us,
@@ -219,9 +215,4 @@ fn annotation_of(line: &[u8]) -> Option<Annotation<'_>> {
         wire,
         what,
     })
-}
-
-/// A number as one that may be below 0. More than it holds is its limit.
-fn signed(number: u64) -> i64 {
-    i64::try_from(number).unwrap_or(i64::MAX)
 }

@@ -2,7 +2,7 @@
 //!
 //! A part begins with a byte of the controller that follows one of the deck. Each part is a capture.
 
-use crate::digits::{number_of, split_digits};
+use crate::digits::number_up_to;
 use crate::fault::{Refusal, Wrong};
 use crate::write::{CaptureWriter, RowFault};
 use capture9::{CaptureError, GREATEST_LIMIT, LineByte, MOST_ROWS, Records, Wire};
@@ -119,7 +119,7 @@ fn check_words<'a>(alloc: Global, words: SplitWords<'a>) -> Result<(&'a str, u64
     }
 }
 
-/// That something is wrong at the line with this number, told in these pieces.
+/// The fault that something is wrong at the line with this number, told in these pieces.
 fn refused(alloc: Global, line: u64, wrong: Wrong, pieces: &[&str]) -> SplitFault {
     match put_together(alloc, pieces) {
         Ok(text) => SplitFault::Refused(Refusal { line, wrong, text }),
@@ -142,10 +142,7 @@ fn rows_named(word: Option<&str>) -> Option<u64> {
     if word.is_empty() {
         return Some(MOST_PART_ROWS);
     }
-    let (digits, rest) = split_digits(word.as_bytes());
-    let rows = number_of(digits);
-    let is_number = rest.is_empty() && matches!(digits, [b'1'..=b'9', ..]);
-    (is_number && rows <= MOST_PART_ROWS).then_some(rows)
+    number_up_to(word.as_bytes(), MOST_PART_ROWS)
 }
 
 /// The name of the part with this number, counted from 1.
@@ -254,7 +251,7 @@ impl<P: Write + Drop> Splitter<'_, P> {
         }
     }
 
-    /// That there are more rows between two places to cut than a part may have; the last row is one too many.
+    /// The fault that there are more rows between two places to cut than a part may have; the last row is one too many.
     fn without_place(&self) -> SplitFault {
         let mut digits = Buffer::new();
         let rows = digits.format(self.most_rows);
@@ -264,7 +261,7 @@ impl<P: Write + Drop> Splitter<'_, P> {
         )
     }
 
-    /// That a part can't be made, for a reason of this kind.
+    /// The fault that a part can't be made, for a reason of this kind.
     fn not_made(&self, name: &str, kind: io::ErrorKind) -> SplitFault {
         let why = match kind {
             io::ErrorKind::AlreadyExists => " is there already, and is left as it is",
@@ -273,7 +270,7 @@ impl<P: Write + Drop> Splitter<'_, P> {
         self.refused(Wrong::Part, &["the part ", name, why])
     }
 
-    /// That the last part can't be written, for this reason. The records of a capture are in order, so each part can have them.
+    /// The fault that the last part can't be written, for this reason. The records of a capture are in order, so each part can have them.
     fn not_written(&self, fault: RowFault) -> SplitFault {
         if fault == RowFault::OutOfMemory {
             return SplitFault::OutOfMemory;
@@ -284,7 +281,7 @@ impl<P: Write + Drop> Splitter<'_, P> {
         }
     }
 
-    /// That something is wrong at the last row, told in these pieces.
+    /// The fault that something is wrong at the last row, told in these pieces.
     fn refused(&self, wrong: Wrong, pieces: &[&str]) -> SplitFault {
         refused(
             self.alloc,

@@ -1,6 +1,6 @@
 //! Dates and clocks.
 
-use crate::digits::number_of;
+use crate::digits::{number_of, signed};
 use crate::seconds::read_seconds;
 
 /// Whether this is a date, as `2024-03-01`, in the calendar or not.
@@ -37,7 +37,7 @@ pub(super) fn since_midnight(clock: &[u8]) -> Option<i64> {
     if hours > 23 || minutes > 59 || number_in(clock, 6, 8) > 59 {
         return None;
     }
-    let minutes = i64::try_from(hours * 60 + minutes).ok()?;
+    let minutes = signed(hours * 60 + minutes);
     let seconds_us = read_seconds(clock.get(6..)?)?;
     Some(
         minutes
@@ -76,7 +76,7 @@ pub(super) fn day_number(date: &[u8]) -> Option<i64> {
     )
 }
 
-/// How many days a month has; none where there is no such month.
+/// How many days a month has; 0 where there is no such month.
 fn days_of(month: u64, year: u64) -> u64 {
     let is_leap = year % 4 == 0 && (year % 100 != 0 || year % 400 == 0);
     match month {
@@ -86,9 +86,4 @@ fn days_of(month: u64, year: u64) -> u64 {
         1..=12 => 31,
         _ => 0,
     }
-}
-
-/// A number of four digits or fewer.
-fn signed(number: u64) -> i64 {
-    i64::try_from(number).unwrap_or(i64::MAX)
 }

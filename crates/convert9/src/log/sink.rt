@@ -42,7 +42,7 @@ pub(super) struct AtOnce<W: Write + Drop> {
 }
 
 impl<W: Write + Drop> AtTheEnd<W> {
-    /// None.
+    /// Before the first byte.
     pub(super) fn of(alloc: Global, writer: W) -> AtTheEnd<W> {
         AtTheEnd {
             kept: Kept::new(alloc),
@@ -74,7 +74,7 @@ impl<W: Write + Drop> TakesBytes for AtTheEnd<W> {
 }
 
 impl<W: Write + Drop> AtOnce<W> {
-    /// None.
+    /// Before the first byte.
     pub(super) fn of(writer: W) -> AtOnce<W> {
         AtOnce {
             writer: Some(writer),

@@ -1,7 +1,7 @@
 //! The stamps of a log: seconds, clocks, dates and clocks, or counters, of one form in the whole log.
 
 use super::calendar::{day_number, is_clock, is_date, since_midnight};
-use crate::digits::number_of;
+use crate::digits::{number_of, signed};
 use crate::seconds::read_seconds;
 
 /// A day, in microseconds.
@@ -56,12 +56,12 @@ impl LineFault {
 /// A stamp, without the brackets that it may stand in.
 #[derive(Clone, Copy)]
 pub(super) struct Stamp<'a> {
-    /// The date before the clock; where a bracket is not closed it still has that.
+    /// The date before the clock, with its bracket where that is not closed.
     date: Option<&'a [u8]>,
     rest: &'a [u8],
 }
 
-/// What a stamp is.
+/// The form of a stamp.
 #[derive(Clone, Copy, PartialEq, Eq)]
 enum Form {
     Seconds,
@@ -115,7 +115,7 @@ impl<'a> Stamp<'a> {
         self.rest.contains(&b'.')
     }
 
-    /// What it is.
+    /// Its form.
     fn form(self) -> Result<Form, LineFault> {
         let form = match self.date {
             Some(date) if is_date(date) && is_clock(self.rest) => Some(Form::Date),
@@ -133,7 +133,7 @@ impl<'a> Stamp<'a> {
 }
 
 impl Stamps {
-    /// None.
+    /// Before the first stamp.
     pub(super) fn new() -> Stamps {
         Stamps {
             form: None,
@@ -199,11 +199,7 @@ fn time_of_counter(stamp: Stamp<'_>, unit: Unit) -> Result<i64, LineFault> {
     if !is_number {
         return Err(fault);
     }
-    Ok(
-        i64::try_from(number_of(digits))
-            .unwrap_or(i64::MAX)
-            .saturating_mul(unit_us),
-    )
+    Ok(signed(number_of(digits)).saturating_mul(unit_us))
 }
 
 /// Whether this is a number of seconds, which has no sign.

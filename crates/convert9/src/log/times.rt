@@ -23,7 +23,7 @@ pub(super) struct Times {
 }
 
 impl Times {
-    /// Nothing.
+    /// Before the first line.
     pub(super) fn new() -> Times {
         Times {
             is_off_125: false,
