@@ -1,6 +1,6 @@
 //! The bytes of one wire, cut into blocks by the wire alone: the first byte says how many there are, and the sum whether they are right.
-//! A silence, or a whole block of the other wire, ends what is begun, but for a block that comes right across it: a tap that collects
-//! bytes may tell a block in two parts.
+//! A silence, or a whole block of the other wire, ends the block that is open, unless its sum comes right across that end: a tap that
+//! collects bytes may hand on a block in two parts.
 
 use crate::lost::{LostByte, LostBytes, block_len, lost_in};
 use crate::place::{Place, Seen, is_sent_by};
@@ -16,7 +16,7 @@ const KEPT: usize = 36;
 
 /// A whole block with a right sum.
 #[derive(Drop)]
-pub(crate) struct Whole {
+pub(crate) struct WholeBlock {
     pub(crate) block: Block,
     pub(crate) first: Place,
     pub(crate) last: Place,
@@ -30,7 +30,7 @@ enum Front {
     /// With a block that is open.
     Open,
     /// With a whole one, of so many bytes.
-    Whole(Whole, usize),
+    Whole(WholeBlock, usize),
     /// With as many bytes as a block has, and no right sum.
     Wrong,
 }
@@ -41,7 +41,7 @@ pub(crate) struct Cutter {
     wire: Wire,
     /// The bytes that are in no block yet.
     kept: ArrayVec<Seen, KEPT>,
-    /// How many of them came before an end; 0 where none came.
+    /// How many of them came before such an end; 0 where there was none.
     ended: usize,
     /// Whether a block of the other wire came since the last byte.
     is_ending: bool,
@@ -63,8 +63,8 @@ impl Cutter {
         }
     }
 
-    /// Takes the wire's next byte: the block that it completes, if it does.
-    pub(crate) fn take(&mut self, seen: Seen) -> Option<Whole> {
+    /// Takes the wire's next byte, and answers the block that it completes, if it does.
+    pub(crate) fn take(&mut self, seen: Seen) -> Option<WholeBlock> {
         if self.is_ended_before(seen) {
             self.end();
         }
@@ -75,7 +75,7 @@ impl Cutter {
         self.settle()
     }
 
-    /// Takes note of a whole block of the other wire, which begins with this record.
+    /// Notes a whole block of the other wire, which begins with this record.
     pub(crate) fn take_other(&mut self, first: Place) {
         if let Some(last) = self.kept.as_slice().last() {
             self.is_ending = last.place.record < first.record;
@@ -92,7 +92,7 @@ impl Cutter {
         }
     }
 
-    /// The blocks that lack a byte, that at the end of the capture included.
+    /// The blocks that lack a byte, with the one at the end of the capture.
     pub(crate) fn lost(&self) -> LostBytes {
         let ended = if self.is_ending && self.ended == 0 {
             self.kept.len()
@@ -102,7 +102,7 @@ impl Cutter {
         self.lost.with(self.lost_before(ended))
     }
 
-    /// Whether what is begun ended before this byte.
+    /// Whether the block that is open ended before this byte.
     fn is_ended_before(&self, seen: Seen) -> bool {
         match self.kept.as_slice().last() {
             Some(last) => self.is_ending || seen.since(*last) > BYTE_GAP_US,
@@ -110,7 +110,7 @@ impl Cutter {
         }
     }
 
-    /// Ends what is begun. Where it had ended before, the first part of it is given up.
+    /// Ends the block that is open. What came before an earlier end is given up.
     fn end(&mut self) {
         self.is_ending = false;
         if self.ended > 0 {
@@ -120,7 +120,7 @@ impl Cutter {
     }
 
     /// The block that the kept bytes begin with, once those that are none are given up.
-    fn settle(&mut self) -> Option<Whole> {
+    fn settle(&mut self) -> Option<WholeBlock> {
         for _ in 0..KEPT {
             match self.front() {
                 Front::Open => return None,
@@ -130,12 +130,8 @@ impl Cutter {
                     self.drop_first(len);
                     return Some(whole);
                 }
-                Front::Wrong => {
-                    if self.ended == 0 {
-                        return None;
-                    }
-                    self.give_up();
-                }
+                Front::Wrong if self.ended == 0 => return None,
+                Front::Wrong => self.give_up(),
             }
         }
         None
@@ -167,13 +163,13 @@ impl Cutter {
         self.ended = 0;
     }
 
-    /// The byte that the first so many of the kept ones lack, if it is one.
+    /// The byte that the first `ended` of the kept ones lack, if they lack one.
     fn lost_before(&self, ended: usize) -> Option<LostByte> {
         let usual_us = self.usual_us.unwrap_or(BYTE_TIME_US);
         lost_in(self.kept.as_slice().get(..ended)?, self.wire, usual_us)
     }
 
-    /// Drops the first so many of the kept bytes.
+    /// Drops the first `count` of the kept bytes.
     fn drop_first(&mut self, count: usize) {
         self.ended = self.ended.saturating_sub(count);
         if count >= self.kept.len() {
@@ -187,7 +183,7 @@ impl Cutter {
 }
 
 /// The whole block that these bytes are, if their sum is right.
-fn whole_of(seen: &[Seen]) -> Option<Whole> {
+fn whole_of(seen: &[Seen]) -> Option<WholeBlock> {
     let mut bytes = ArrayVec::<u8, MOST_BYTES>::new();
     let mut least_us = u64::MAX;
     let mut before = None;
@@ -198,7 +194,7 @@ fn whole_of(seen: &[Seen]) -> Option<Whole> {
         }
         before = Some(*next);
     }
-    Some(Whole {
+    Some(WholeBlock {
         block: Block::from_bytes(bytes.as_slice())?,
         first: seen.first()?.place,
         last: seen.last()?.place,

@@ -7,16 +7,16 @@ use arrayvec::ArrayVec;
 /// The most parts: once there are so many they join in pairs.
 const PARTS: usize = 20;
 
-/// The fewest parts of which a movement is told.
+/// How many parts there must be before a movement is told.
 const FEWEST_PARTS: usize = PARTS / 2;
 
-/// The fewest replies in each of them.
+/// How many replies each of them must have.
 const FEWEST_REPLIES: u32 = 8;
 
-/// By more than this the least delay moves, in microseconds.
+/// A movement of the least delay is told where it is more than this, in microseconds.
 const MOVES_US: u64 = 1_000;
 
-/// How far a part may lie from the straight line between the first and the last: this part of the movement.
+/// A part may lie as far from the straight line between the first and the last as the movement divided by this.
 const STRAY: u64 = 4;
 
 /// The least delays so far.

@@ -1,8 +1,8 @@
 //! The facts of a capture, a line each: a name, a colon and a value.
 
-use crate::line::Line;
 use crate::signs::Signs;
 use crate::text::{put_seconds, put_tenths, rate_word};
+use crate::wire_counts::WireCounts;
 use report9::{put_count, put_text};
 use std::alloc::AllocError;
 
@@ -100,9 +100,9 @@ fn put_running(text: &mut Vec<u8>, signs: &Signs) -> Result<(), AllocError> {
 }
 
 /// Puts the longest silences of a wire, with the records that end them.
-fn put_silences(text: &mut Vec<u8>, name: &str, line: &Line) -> Result<(), AllocError> {
+fn put_silences(text: &mut Vec<u8>, name: &str, wire: &WireCounts) -> Result<(), AllocError> {
     let mut before = name;
-    for silence in line.silences.longest {
+    for silence in wire.silences.longest {
         if silence.us > 0 {
             put_text(text, before)?;
             put_seconds(text, silence.us)?;

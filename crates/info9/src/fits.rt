@@ -4,10 +4,10 @@ use crate::place::Place;
 use crate::sign::{Seeming, Sign};
 use block9::{Block, Command};
 
-/// The fewest replies that fit the command before alone of which it is told.
+/// How many replies must fit only the command before theirs for that to be told.
 const FEWEST: u64 = 6;
 
-/// The replies that fit one of both commands, and not the other.
+/// The replies that fit only one of the two: their own command, or the one before it.
 #[derive(Clone, Copy)]
 pub(crate) struct Fits {
     /// Those that fit their own.

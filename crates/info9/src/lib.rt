@@ -10,7 +10,6 @@ mod facts;
 mod fits;
 mod info;
 mod label;
-mod line;
 mod lost;
 mod place;
 mod rates;
@@ -22,6 +21,7 @@ mod step;
 mod text;
 mod told;
 mod turns;
+mod wire_counts;
 
 pub use info::write_info;
 pub use place::Place;

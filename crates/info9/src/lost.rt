@@ -49,7 +49,7 @@ pub(crate) fn block_len(first: u8) -> usize
     usize::from(first % 16) + 3
 }
 
-/// The byte that is missing in what a wire carries of a block. None where there is not one alone, or where the block began before the
+/// The byte that is missing in what a wire carries of a block. None where not exactly one is missing, or where the block began before the
 /// capture did. `usual_us`: the least time between bytes of whole blocks.
 pub(crate) fn lost_in(piece: &[Seen], wire: Wire, usual_us: u64) -> Option<LostByte> {
     let (last, others) = piece.split_last()?;
@@ -96,14 +96,12 @@ fn widest(piece: &[Seen], usual_us: u64) -> Option<Seen> {
 
 /// The sum of the bytes, modulo 256.
 fn sum_of(piece: &[Seen]) -> u8 {
-    let mut sum = 0u8;
-    for seen in piece {
-        sum = sum.wrapping_add(seen.byte);
-    }
-    sum
+    piece
+        .iter()
+        .fold(0, |sum: u8, seen| sum.wrapping_add(seen.byte))
 }
 
-/// The byte with which bytes of this sum have that one.
+/// The byte that makes this sum the wanted one.
 fn completing(sum: u8, wanted: u8) -> u8
     ensures { (sum + result) % 256 ≡ wanted }
 {

@@ -9,13 +9,13 @@ use tc25::Rate;
 /// What speaks against the rate that is asked with.
 #[derive(Clone, Copy, Debug, PartialEq, Eq)]
 pub enum RateSeen {
-    /// This frame of a second is told, which the rate has not.
+    /// A time with this frame of a second is told, which the rate does not have.
     Frame(u32),
     /// So many frames a second elapse, in thousandths.
     Elapsed(u64),
     /// So many times have the flag of drop frame.
     Flags(u64),
-    /// So many times have frame 00 or 01 of a minute that drop frame has not.
+    /// So many times have a label that drop frame leaves out: frame 00 or 01 of some minutes.
     Undropped(u64),
 }
 
@@ -28,7 +28,7 @@ pub enum Fitting {
     Thirty,
 }
 
-/// The sign that another rate fits than the one that is asked with.
+/// The sign that the rate asked with does not fit, and another does.
 pub(crate) fn sign_of_rate(asked: Rate, told: &Told, running: &Running) -> Option<Sign> {
     let fits = fitting_of(asked, told, running)?;
     let is_asked = match fits {
@@ -57,7 +57,7 @@ fn fitting_of(asked: Rate, told: &Told, running: &Running) -> Option<Fitting> {
     }
 }
 
-/// What speaks against a rate that is none of these, and where.
+/// What shows that the rates that fit are these and not the one that is asked with, and where.
 fn seen_against(fits: Fitting, told: &Told, running: &Running) -> (Option<Place>, RateSeen) {
     match (told.lacking, fits) {
         (Some((at, 0 | 1)), _) => (Some(at), RateSeen::Undropped(told.undropped)),

@@ -6,15 +6,17 @@
 use crate::label::Label;
 use crate::place::Place;
 
-/// A second that runs takes as long as this, in microseconds.
+/// A second that runs takes this long at least, in microseconds.
 const LEAST_US: u64 = 900_000;
 
+/// A second that runs takes this long at most.
 const MOST_US: u64 = 1_100_000;
 
 /// How far a frame rate that is measured may lie from one that is meant, in thousandths of a frame a second.
 const STRAY: u64 = 400;
 
-/// How many times have to be told so that 24 and 25 can be told apart: their square is as many times the seconds.
+/// 24 and 25 frames a second can be told apart where the square of the times told is at least this many times the seconds that
+/// run.
 const TIMES_SQUARED: u64 = 6_250;
 
 /// The second that is open.

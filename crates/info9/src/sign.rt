@@ -130,14 +130,7 @@ impl Seeming {
     /// Puts what was seen, with its numbers.
     fn put_seen(&self, line: &mut Vec<u8>) -> Result<(), AllocError> {
         match *self {
-            Seeming::WiresSwapped { controller, deck } => {
-                put_count(
-                    line,
-                    "blocks of a deck on the controller's wire: ",
-                    controller,
-                )?;
-                put_count(line, ", of a controller on the deck's: ", deck)
-            }
+            Seeming::WiresSwapped { controller, deck } => put_swapped(line, controller, deck),
             Seeming::BeginsInside => put_text(
                 line,
                 "no command with a right checksum begins there",
@@ -152,15 +145,7 @@ impl Seeming {
                 put_count(line, "all times come in steps of ", step_us)?;
                 put_text(line, " us after it")
             }
-            Seeming::TwoClocks { from_us, to_us } => {
-                put_count(
-                    line,
-                    "the least delay of a reply moves steadily from ",
-                    from_us,
-                )?;
-                put_count(line, " to ", to_us)?;
-                put_text(line, " us")
-            }
+            Seeming::TwoClocks { from_us, to_us } => put_moves(line, from_us, to_us),
             Seeming::WrongRate { asked, seen, .. } => put_rate_seen(line, asked, seen),
             Seeming::OneBehind { replies, of } => {
                 put_count(line, "", replies)?;
@@ -174,14 +159,7 @@ impl Seeming {
                 commands,
                 from_us,
                 to_us,
-            } => {
-                put_count(line, "", u64::from(commands))?;
-                put_text(line, " commands in a row without a reply, from ")?;
-                put_seconds(line, from_us)?;
-                put_text(line, " s to ")?;
-                put_seconds(line, to_us)?;
-                put_text(line, " s")
-            }
+            } => put_silence(line, commands, from_us, to_us),
             Seeming::LostBytes {
                 byte,
                 after,
@@ -189,6 +167,42 @@ impl Seeming {
             } => put_lost(line, byte, after, blocks),
         }
     }
+}
+
+/// Puts how many blocks came on the wrong one of the two wires.
+fn put_swapped(line: &mut Vec<u8>, controller: u64, deck: u64) -> Result<(), AllocError> {
+    put_count(
+        line,
+        "blocks of a deck on the controller's wire: ",
+        controller,
+    )?;
+    put_count(line, ", of a controller on the deck's: ", deck)
+}
+
+/// Puts from where to where the least delay moves.
+fn put_moves(line: &mut Vec<u8>, from_us: u64, to_us: u64) -> Result<(), AllocError> {
+    put_count(
+        line,
+        "the least delay of a reply moves steadily from ",
+        from_us,
+    )?;
+    put_count(line, " to ", to_us)?;
+    put_text(line, " us")
+}
+
+/// Puts how many commands in a row have no reply, and from when to when.
+fn put_silence(
+    line: &mut Vec<u8>,
+    commands: u32,
+    from_us: u64,
+    to_us: u64,
+) -> Result<(), AllocError> {
+    put_count(line, "", u64::from(commands))?;
+    put_text(line, " commands in a row without a reply, from ")?;
+    put_seconds(line, from_us)?;
+    put_text(line, " s to ")?;
+    put_seconds(line, to_us)?;
+    put_text(line, " s")
 }
 
 /// Puts which byte a block lacks, and after which record.

@@ -1,16 +1,16 @@
 //! What a capture shows of itself, one record after another.
 
-use crate::line::Line;
 use crate::place::{Place, Seen};
 use crate::rates::sign_of_rate;
 use crate::sign::{Seeming, Sign};
 use crate::step::Step;
 use crate::turns::Turns;
+use crate::wire_counts::WireCounts;
 use capture9::{LineByte, Wire};
 use report9::Beginning;
 use tc25::Rate;
 
-/// In more than so many blocks bytes are too close, where a tap collects them.
+/// A tap that collects bytes is told where they are too close in more than this many blocks.
 const HANDFUL: u64 = 5;
 
 /// From this step on times are coarse, in microseconds.
@@ -25,8 +25,8 @@ pub struct Signs {
     pub(crate) first: Option<(Place, Wire)>,
     pub(crate) last: Place,
     pub(crate) step: Step,
-    pub(crate) controller: Line,
-    pub(crate) deck: Line,
+    pub(crate) controller: WireCounts,
+    pub(crate) deck: WireCounts,
     pub(crate) turns: Turns,
     /// Whether a whole command begins with record 1.
     is_begun: bool,
@@ -41,8 +41,8 @@ impl Signs {
             first: None,
             last: Place::NONE,
             step: Step::new(),
-            controller: Line::new(Wire::Controller),
-            deck: Line::new(Wire::Deck),
+            controller: WireCounts::new(Wire::Controller),
+            deck: WireCounts::new(Wire::Deck),
             turns: Turns::new(rate),
             is_begun: false,
         }
@@ -85,7 +85,7 @@ impl Signs {
         }
     }
 
-    /// The signs that the records so far show. Where the wires are swapped, what has to know which is whose is not looked for.
+    /// The signs that the records so far show. Where the wires are swapped, no sign is looked for that depends on whose wire is which.
     pub fn signs(&self) -> [Option<Sign>; 9] {
         let swapped = self.wires_swapped();
         let told = self.coarse_times();

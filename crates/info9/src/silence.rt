@@ -43,9 +43,9 @@ impl Silences {
     }
 }
 
-/// Commands in a row without a reply.
+/// A run of commands without a reply.
 #[derive(Clone, Copy)]
-struct Row {
+struct Unanswered {
     /// How many.
     commands: u32,
     /// The first record of the first of them.
@@ -54,18 +54,18 @@ struct Row {
     to: Place,
 }
 
-/// The commands since the deck's last byte, and the longest row of those without a reply.
+/// The commands since the deck's last byte, and the longest run of those without a reply.
 #[derive(Clone, Copy)]
 pub(crate) struct Awaited {
-    open: Option<Row>,
-    longest: Row,
+    open: Option<Unanswered>,
+    longest: Unanswered,
 }
 
 impl Awaited {
     /// Of no command.
     pub(crate) const NONE: Awaited = Awaited {
         open: None,
-        longest: Row {
+        longest: Unanswered {
             commands: 0,
             from: Place::NONE,
             to: Place::NONE,
@@ -75,12 +75,12 @@ impl Awaited {
     /// Takes a command that begins with this record.
     pub(crate) fn take_command(&mut self, first: Place) {
         self.open = Some(match self.open {
-            Some(open) => Row {
+            Some(open) => Unanswered {
                 commands: open.commands.saturating_add(1),
                 from: open.from,
                 to: first,
             },
-            None => Row {
+            None => Unanswered {
                 commands: 0,
                 from: first,
                 to: first,
@@ -90,12 +90,12 @@ impl Awaited {
 
     /// Takes a byte of the deck.
     pub(crate) fn take_deck(&mut self) {
-        self.longest = self.longest_row();
+        self.longest = self.longest_unanswered();
         self.open = None;
     }
 
-    /// The longest row of commands without a reply that is a silence. A reply to the last command may still come.
-    fn longest_row(&self) -> Row {
+    /// The longest run of commands without a reply that is a silence. A reply to the last command may still come.
+    fn longest_unanswered(&self) -> Unanswered {
         match self.open {
             Some(open) if open.is_silence() && open.commands > self.longest.commands => open,
             _ => self.longest,
@@ -104,17 +104,17 @@ impl Awaited {
 
     /// The sign that commands in a row have no reply.
     pub(crate) fn sign(&self) -> Option<Sign> {
-        let row = self.longest_row();
+        let run = self.longest_unanswered();
         let what = Seeming::Silence {
-            commands: row.commands,
-            from_us: row.from.time_us,
-            to_us: row.to.time_us,
+            commands: run.commands,
+            from_us: run.from.time_us,
+            to_us: run.to.time_us,
         };
-        row.is_silence().then_some(Sign { at: row.from, what })
+        run.is_silence().then_some(Sign { at: run.from, what })
     }
 }
 
-impl Row {
+impl Unanswered {
     /// Whether they are so many, and last so long, that it is a silence.
     fn is_silence(&self) -> bool {
         let us = self.to.time_us.saturating_sub(self.from.time_us);

@@ -11,11 +11,11 @@ pub(crate) struct Told {
     pub(crate) greatest: u32,
     /// How many have the flag of drop frame.
     pub(crate) flagged: u64,
-    /// How many have frame 00 or 01 of a minute that drop frame has not.
+    /// How many have a label that drop frame leaves out: frame 00 or 01 of some minutes.
     pub(crate) undropped: u64,
     /// The first.
     pub(crate) first: Option<Place>,
-    /// The first that the rate has not that is asked with, with its frame.
+    /// The first that the rate asked with does not have, and its frame.
     pub(crate) lacking: Option<(Place, u32)>,
 }
 

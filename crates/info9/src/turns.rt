@@ -1,6 +1,6 @@
 //! The turns of the line: which command a reply comes to, how long it takes, and what both tell.
 
-use crate::cutter::Whole;
+use crate::cutter::WholeBlock;
 use crate::delays::Delays;
 use crate::fits::Fits;
 use crate::label::{Label, command_in, tells_label};
@@ -44,7 +44,7 @@ impl Turns {
     }
 
     /// Takes a whole block of the controller.
-    pub(crate) fn take_command(&mut self, whole: &Whole) {
+    pub(crate) fn take_command(&mut self, whole: &WholeBlock) {
         self.before = self.asked;
         self.asked = command_in(&whole.block);
         self.asked_us = Some(whole.last.time_us);
@@ -55,7 +55,7 @@ impl Turns {
     }
 
     /// Takes a whole block of the deck. Only the first after a command is its reply.
-    pub(crate) fn take_reply(&mut self, whole: &Whole) {
+    pub(crate) fn take_reply(&mut self, whole: &WholeBlock) {
         let Some(asked_us) = self.asked_us else {
             return;
         };
@@ -77,7 +77,7 @@ impl Turns {
     }
 
     /// Takes the time that a block tells.
-    fn tell(&mut self, whole: &Whole) -> Option<Label> {
+    fn tell(&mut self, whole: &WholeBlock) -> Option<Label> {
         let label = Label::of(self.rate, &whole.block, whole.first)?;
         self.told.take(&label);
         Some(label)

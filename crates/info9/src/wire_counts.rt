@@ -1,25 +1,25 @@
 //! What is counted of one wire: its records, its blocks, and its silences.
 
-use crate::cutter::{Cutter, Whole};
+use crate::cutter::{Cutter, WholeBlock};
 use crate::place::{Place, Seen, is_sent_by, other};
 use crate::silence::Silences;
 use block9::BYTE_TIME_US;
 use capture9::Wire;
 
-/// Below which time between two bytes of a block no line can have carried them, in microseconds: half of what a byte lasts, so that
-/// neither a fast line nor a tap's jitter comes there.
+/// The time, in microseconds, that no line can come below between two bytes of a block: half of what a byte lasts, so that neither a fast
+/// line nor a tap's jitter does.
 const CLOSE_US: u64 = BYTE_TIME_US / 2;
 
 /// What is counted of one wire.
 #[derive(Drop)]
-pub(crate) struct Line {
+pub(crate) struct WireCounts {
     wire: Wire,
     pub(crate) cutter: Cutter,
     pub(crate) silences: Silences,
     pub(crate) records: u64,
     /// Whole blocks with right sums.
     pub(crate) blocks: u64,
-    /// Those of a group that only the other wire has.
+    /// Those of a group that only the other wire carries.
     pub(crate) strangers: u64,
     pub(crate) first_stranger: Option<Place>,
     /// Those whose bytes are closer than a byte lasts.
@@ -29,10 +29,10 @@ pub(crate) struct Line {
     pub(crate) least_us: u64,
 }
 
-impl Line {
+impl WireCounts {
     /// Of a wire that carried nothing yet.
-    pub(crate) fn new(wire: Wire) -> Line {
-        Line {
+    pub(crate) fn new(wire: Wire) -> WireCounts {
+        WireCounts {
             wire,
             cutter: Cutter::new(wire),
             silences: Silences::default(),
@@ -46,8 +46,8 @@ impl Line {
         }
     }
 
-    /// Takes the wire's next byte: the block that it completes, if it does.
-    pub(crate) fn take(&mut self, seen: Seen) -> Option<Whole> {
+    /// Takes the wire's next byte, and answers the block that it completes, if it does.
+    pub(crate) fn take(&mut self, seen: Seen) -> Option<WholeBlock> {
         self.records = self.records.saturating_add(1);
         self.silences.take(seen.place);
         let whole = self.cutter.take(seen)?;
@@ -55,13 +55,13 @@ impl Line {
         Some(whole)
     }
 
-    /// Whole blocks of groups that this wire may have.
+    /// Whole blocks of groups that this wire may carry.
     pub(crate) fn own(&self) -> u64 {
         self.blocks.saturating_sub(self.strangers)
     }
 
     /// Counts a whole block.
-    fn count(&mut self, whole: &Whole) {
+    fn count(&mut self, whole: &WholeBlock) {
         self.blocks = self.blocks.saturating_add(1);
         self.least_us = self.least_us.min(whole.least_us);
         if is_sent_by(other(self.wire), whole.block.group) {
