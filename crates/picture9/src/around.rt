@@ -50,7 +50,7 @@ pub(crate) fn draw_around(svg: &mut Markup, layout: &Layout) -> Done {
     Ok(())
 }
 
-/// Draws what a box is and what a cut says; and on a line above it what it means that boxes are joined, where some are.
+/// Draws the legend: what a box is and what a cut says, and on a line above it, where boxes are joined, what that means.
 fn draw_notes(svg: &mut Markup, has_cuts: bool, has_ties: bool) {
     let y = if has_ties { 358 } else { 352 };
     if has_ties {
@@ -80,7 +80,7 @@ fn draw_across(svg: &mut Markup, layout: &Layout, y: u64, look: Look) {
     draw_line(svg, (WIRES_LEFT, y), (right, y), look);
 }
 
-/// Draws the silences that are cut, but for the one that is measured: whether there is one.
+/// Draws the silences that are cut, but for the one that is measured, and answers whether there is one.
 fn draw_cuts(svg: &mut Markup, layout: &Layout) -> Result<bool, AllocError> {
     let is_measured = layout.measured.is_some();
     let text_y = if is_measured { 216 } else { 190 };
@@ -118,7 +118,7 @@ fn draw_cut(
     Ok(())
 }
 
-/// Draws what the time between the last record and the one that breaks is, over the limit, where it is measured.
+/// Draws the time from the record before to the one that breaks, and below it the limit, where that time is measured.
 fn draw_measure(svg: &mut Markup, layout: &Layout) {
     let Some((before, limit_us)) = layout.measured else {
         return;

@@ -1,5 +1,5 @@
-//! The block that a record belongs to. Each wire is read by itself, since where a rule of the turns is broken a block of the one comes
-//! inside a block of the other.
+//! The block that a record belongs to. Each wire is read by itself, since a block on the one may come inside a block on the other, where
+//! the sides do not wait for one another.
 
 use block9::BYTE_GAP_US;
 use capture9::{LineByte, Wire};
@@ -31,7 +31,7 @@ impl Seen {
 
 /// The last block of a wire.
 #[derive(Clone, Copy)]
-struct Wired {
+struct WireBlock {
     /// The number of its first record.
     begun: u32,
     /// How many bytes came.
@@ -47,13 +47,13 @@ struct Wired {
 /// The last block of each wire.
 #[derive(Clone, Copy)]
 pub(crate) struct Blocks {
-    controller: Wired,
-    deck: Wired,
+    controller: WireBlock,
+    deck: WireBlock,
 }
 
-impl Wired {
-    /// Of a wire without a block.
-    const NONE: Wired = Wired {
+impl WireBlock {
+    /// Before the first block of a wire.
+    const NONE: WireBlock = WireBlock {
         begun: 0,
         held: 0,
         length: 0,
@@ -66,18 +66,18 @@ impl Wired {
         self.held < self.length
     }
 
-    /// What it is after a record, which belongs to the open block, or begins one.
-    fn after(self, number: u32, record: LineByte) -> Wired {
+    /// The block after one more record, which belongs to it while it is open, and else begins the next.
+    fn after(self, number: u32, record: LineByte) -> WireBlock {
         let block = if self.is_open() {
             self
         } else {
-            Wired {
+            WireBlock {
                 begun: number,
                 length: record.byte % 16 + 3,
-                ..Wired::NONE
+                ..WireBlock::NONE
             }
         };
-        Wired {
+        WireBlock {
             held: block.held.saturating_add(1),
             sum: block.sum.wrapping_add(record.byte),
             latest_us: record.time_us,
@@ -85,7 +85,7 @@ impl Wired {
         }
     }
 
-    /// Whether the open block may come right with the records of its wire that follow, so far as they are known.
+    /// Whether the open block's sum may still come right with the records of its wire that follow, so far as they are known.
     fn may_come_right(self, wire: Wire, rest: &[LineByte]) -> bool {
         let mut missing = self.length.saturating_sub(self.held);
         let mut sum = self.sum;
@@ -104,10 +104,10 @@ impl Wired {
 }
 
 impl Blocks {
-    /// Of a part without a record.
+    /// Before the first record of a part.
     pub(crate) const NONE: Blocks = Blocks {
-        controller: Wired::NONE,
-        deck: Wired::NONE,
+        controller: WireBlock::NONE,
+        deck: WireBlock::NONE,
     };
 
     /// Takes the part's next record.
@@ -137,7 +137,7 @@ impl Blocks {
         if has_rested || !goes_on {
             self.set(
                 first.wire,
-                Wired {
+                WireBlock {
                     length: block.held,
                     ..block
                 },
@@ -146,7 +146,7 @@ impl Blocks {
     }
 
     /// The last block of a wire.
-    fn on(&self, wire: Wire) -> Wired {
+    fn on(&self, wire: Wire) -> WireBlock {
         match wire {
             Wire::Controller => self.controller,
             Wire::Deck => self.deck,
@@ -154,7 +154,7 @@ impl Blocks {
     }
 
     /// Sets it.
-    fn set(&mut self, wire: Wire, block: Wired) {
+    fn set(&mut self, wire: Wire, block: WireBlock) {
         match wire {
             Wire::Controller => self.controller = block,
             Wire::Deck => self.deck = block,

@@ -2,7 +2,7 @@
 //! them may be open at a time.
 
 use crate::around::{TALL, draw_around};
-use crate::choice::Broke;
+use crate::choice::PartEnd;
 use crate::layout::lay_out;
 use crate::markup::{Done, Markup};
 use crate::numbers::PIXEL;
@@ -45,7 +45,7 @@ pub struct BreakPictures {
     alloc: Global,
     beginning: Beginning,
     /// The break that ended the part before.
-    before: Option<Broke>,
+    before: Option<PartEnd>,
     /// Whether the part of a late reply that is drawn goes on.
     is_late: bool,
     /// The breaks that are drawn, in their order.
@@ -83,7 +83,7 @@ impl Break {
 }
 
 impl BreakPictures {
-    /// Of no break yet, of a capture whose first part begins so.
+    /// Before the first break of a capture whose first part begins so.
     pub fn new(alloc: Global, beginning: Beginning) -> BreakPictures {
         BreakPictures {
             alloc,
@@ -124,7 +124,7 @@ impl BreakPictures {
         if reason == Reason::LateReply {
             return;
         }
-        self.before = Some(Broke { at, reason });
+        self.before = Some(PartEnd { at, reason });
         if self.is_late {
             self.end_late(at);
         }
@@ -216,7 +216,7 @@ impl BreakPictures {
 }
 
 impl Asked {
-    /// The last record that was judged, where what goes on ends at this one.
+    /// The last record that was judged; `at`, where the part went on until then.
     fn judged_to_or(&self, at: u32) -> u32 {
         if self.judged_to == u32::MAX {
             at

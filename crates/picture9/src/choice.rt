@@ -8,9 +8,9 @@ use std::alloc::Global;
 use std::io::Read;
 use view9::{Ending, ExplainedView, View, ViewOf, show_explained};
 
-/// A break that ended a part.
+/// The break that ended a part.
 #[derive(Clone, Copy)]
-pub(crate) struct Broke {
+pub(crate) struct PartEnd {
     /// The number of the record.
     pub(crate) at: u32,
     pub(crate) reason: Reason,
@@ -25,8 +25,8 @@ pub(crate) struct Choice {
     pub(crate) is_broken: bool,
     /// The one that is drawn.
     pub(crate) why: Option<WhyNo>,
-    /// The one that ended the part before it.
-    pub(crate) before: Option<Broke>,
+    /// The break that ended the part before it.
+    pub(crate) before: Option<PartEnd>,
     /// The record that ends the part in which it is.
     ended_at: Option<u32>,
 }
@@ -71,7 +71,7 @@ impl ExplainedView for Choice {
         } else if self.wanted.unwrap_or(at) == at {
             self.why = Some(why);
         } else if !is_late {
-            self.before = Some(Broke { at, reason });
+            self.before = Some(PartEnd { at, reason });
         }
         Ok(())
     }

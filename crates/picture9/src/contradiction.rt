@@ -129,7 +129,7 @@ pub fn put_known_before(
     Ok(())
 }
 
-/// Puts a field and its value behind what comes before, where it is known and no mode, and answers what comes before the next.
+/// Puts a field and its value after `before`, where it is known and no mode, and answers what to put before the next.
 fn put_known<'a>(
     text: &mut Vec<u8>,
     before: &'a str,

@@ -88,11 +88,10 @@ pub(crate) fn rows_of<R: Read + Drop>(
 
 /// The number of the record before the first exchange, of which the last ends with the record of the number `at`.
 fn first_before(at: u32, exchanges: &[Exchange]) -> u32 {
-    let mut before = at;
-    for exchange in exchanges {
-        before = before.saturating_sub(exchange.records() as u32);
-    }
-    before
+    exchanges.iter().fold(
+        at,
+        |before, exchange| before.saturating_sub(exchange.records() as u32),
+    )
 }
 
 /// Reads the records from the first number to the last. Those before are passed over.
@@ -147,7 +146,7 @@ fn put_time(text: &mut Vec<u8>, rate: Rate, time: Option<TimeCode>) -> Done {
     text.put(&time.text_at(rate))
 }
 
-/// What the reply says of the deck by itself: what a report's line of the exchange has behind the bytes and a comma.
+/// What the reply says of the deck, taken by itself: the end of a report's line of the exchange, after the bytes and a comma.
 pub fn says_of(
     alloc: Global,
     profile: &Profile,

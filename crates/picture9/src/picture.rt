@@ -39,10 +39,10 @@ pub enum WhyNothing {
     NoBreakAt(u32),
 }
 
-/// What came of it.
+/// What [`write_picture`] came to.
 #[derive(Clone, Copy, Debug, PartialEq, Eq)]
 pub enum Drawn {
-    /// The picture was written, of a judging that ended so.
+    /// The picture was written. The judging ended so.
     Picture(Ending),
     /// There is nothing to draw, and nothing was written.
     Nothing(WhyNothing),
@@ -59,8 +59,8 @@ pub struct Twice<R: Read + Drop> {
 
 /// Draws the record of a capture that breaks a rule, as an SVG: both wires over time, each byte a box, and what stands before and
 /// after it; and where no run of the deck remains the replies that contradict one another, a row for each. Both readers give
-/// the whole capture. It is judged as the scope says, of a deck that is taken for this. Of all parts one break is drawn: the first, or the
-/// one at the record that is wanted. A late reply ends no part there.
+/// the whole capture. It is judged as the scope says, for a deck of this profile. Where all parts are judged, one break is drawn, the
+/// first or the one at the record that is wanted, and a late reply ends no part.
 ///
 /// Nothing is written before the judging ended, and nothing where there is an error that is not `Write`. Errors are those of the
 /// judging.
@@ -173,7 +173,7 @@ fn draw_contradiction<R: Read + Drop>(
     Ok(Some(svg))
 }
 
-/// Puts the head of a picture that is so wide and so tall: the no at a record by a reason, and a sentence below it.
+/// Puts the head of a picture of this size: the line of the verdict, with its record and its reason, and a sentence below it.
 fn put_head(
     svg: &mut Markup,
     (wide, tall): (u64, u64),

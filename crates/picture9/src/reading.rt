@@ -1,7 +1,7 @@
 //! The second reading of a capture: the records around one of them.
 
 use crate::blocks::{Blocks, Seen};
-use crate::choice::Broke;
+use crate::choice::PartEnd;
 use crate::markup::Done;
 use block9::{BYTE_GAP_US, Reason};
 use capture9::{GREATEST_LIMIT, LineByte, Records, Wire};
@@ -15,7 +15,7 @@ pub(crate) const RECORDS_BEFORE: u32 = 240;
 /// How many records after it may be drawn.
 pub(crate) const RECORDS_AFTER: u32 = 80;
 
-/// What is read a second time.
+/// Which records are read a second time.
 #[derive(Clone, Copy)]
 pub(crate) struct Asked {
     /// The number of the record that breaks.
@@ -23,7 +23,7 @@ pub(crate) struct Asked {
     /// The last record that was judged.
     pub(crate) judged_to: u32,
     /// The break that ended the part before.
-    pub(crate) before: Option<Broke>,
+    pub(crate) before: Option<PartEnd>,
     pub(crate) beginning: Beginning,
 }
 
@@ -38,8 +38,8 @@ pub(crate) struct Reading {
     pub(crate) seen: Vec<Seen>,
 }
 
-/// Reads the records of the part around the one that breaks, of the whole capture. Behind that one a bad row ends them, as nothing was
-/// judged there.
+/// Reads the records around the one that breaks, from a reader that gives the whole capture. After that one a bad row is no error, and ends
+/// them, since nothing was judged there.
 pub(crate) fn read_around<R: Read + Drop>(
     alloc: Global,
     reader: R,
@@ -74,7 +74,7 @@ fn read_after<R: Read + Drop>(
 }
 
 impl Reading {
-    /// Of no record yet.
+    /// Before the first record.
     pub(crate) fn new(alloc: Global, asked: &Asked) -> Reading {
         Reading {
             asked: *asked,
@@ -85,8 +85,8 @@ impl Reading {
         }
     }
 
-    /// Takes a record up to the one that breaks, where the reading began inside the capture: blocks are read from the first record on
-    /// that may begin a command. In a part that was judged, each of them does.
+    /// Takes a record up to the one that breaks, where the reading began inside the capture: blocks are read from the first record on that
+    /// may begin a command, as in a part that was judged each such record does.
     pub(crate) fn take_inside(&mut self, number: u32, record: LineByte) -> Done {
         self.is_begun = self.is_begun || self.asked.begins_inside(number, record, self.last);
         self.see(number, record)
@@ -111,7 +111,7 @@ impl Reading {
         Ok(())
     }
 
-    /// Takes the records after that.
+    /// Takes the records after the one that breaks.
     pub(crate) fn take_after(&mut self, after: &[LineByte]) -> Done {
         let mut number = self.asked.at;
         for (place, record) in after.iter().enumerate() {
@@ -141,9 +141,9 @@ impl Asked {
     /// Whether the part begins with this record, which comes after `last`.
     fn begins_part(&self, number: u32, record: LineByte, last: Option<LineByte>) -> bool {
         match self.before {
-            Some(broke) if number < broke.at => false,
-            Some(broke) if number == broke.at => {
-                record.wire == Wire::Controller && ends_before(broke.reason)
+            Some(end) if number < end.at => false,
+            Some(end) if number == end.at => {
+                record.wire == Wire::Controller && ends_before(end.reason)
             }
             None if self.beginning == Beginning::FirstRecord => true,
             _ => may_begin(record, last),

@@ -38,8 +38,8 @@ impl Spot {
     }
 }
 
-/// Places records, the first of them at 0. A longer silence is cut, but before the record of the number `at` a time over the limit is
-/// drawn, where there is a limit.
+/// Places records, the first of them at 0. A silence longer than is drawn is cut; before the record of the number `at` the limit is drawn
+/// besides, where there is one.
 pub(crate) fn place_records(
     alloc: Global,
     seen: &[Seen],
@@ -58,7 +58,7 @@ pub(crate) fn place_records(
     Ok(spots)
 }
 
-/// The place of a record after the one before, by the time between them, of which more is drawn by so much.
+/// The place of a record after the one before, by the time between them, of which `more_us` more than usual may be drawn.
 fn spot_after(last: Option<Spot>, seen: Seen, more_us: u64) -> Spot {
     let Some(last) = last else {
         return Spot {
@@ -78,11 +78,9 @@ fn spot_after(last: Option<Spot>, seen: Seen, more_us: u64) -> Spot {
 
 /// From where on a wire is free, behind the boxes of these records.
 fn free_on(spots: &[Spot], wire: Wire) -> u64 {
-    let mut free = 0;
-    for spot in spots {
-        if spot.seen.record.wire == wire {
-            free = spot.end().saturating_add(2 * PIXEL);
-        }
-    }
-    free
+    spots
+        .iter()
+        .rev()
+        .find(|spot| spot.seen.record.wire == wire)
+        .map_or(0, |last| last.end().saturating_add(2 * PIXEL))
 }

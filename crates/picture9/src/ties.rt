@@ -9,14 +9,14 @@ use crate::shapes::{BOX_TALL, draw_line};
 use crate::spot::Spot;
 use capture9::Wire;
 
-/// Draws the lines of both wires: whether there is one.
+/// Draws the lines of both wires, and answers whether there is one.
 pub(crate) fn draw_ties(svg: &mut Markup, layout: &Layout) -> bool {
     let has_commands = draw_ties_of(svg, layout, Wire::Controller);
     let has_replies = draw_ties_of(svg, layout, Wire::Deck);
     has_commands || has_replies
 }
 
-/// Draws the lines of a wire: whether there is one.
+/// Draws the lines of a wire, and answers whether there is one.
 fn draw_ties_of(svg: &mut Markup, layout: &Layout, wire: Wire) -> bool {
     let mut has_ties = false;
     let mut tied: Option<(Spot, Spot)> = None;
@@ -36,7 +36,7 @@ fn draw_ties_of(svg: &mut Markup, layout: &Layout, wire: Wire) -> bool {
     has_ties || is_last_drawn
 }
 
-/// Draws a line from the first to the last box of those with one stamp: whether these are two at least.
+/// Draws a line from the first to the last of the boxes with one stamp, where these are two at least, and answers whether they are.
 fn draw_tie(svg: &mut Markup, tied: Option<(Spot, Spot)>) -> bool {
     let Some((first, last)) = tied else {
         return false;
