@@ -7,10 +7,11 @@ use crate::html::{
 use block9::Reason;
 use deck9::Profile;
 use picture9::{Done, Markup};
-use report9::{put_command, put_reply, put_text, put_word};
+use report9::{put_command, put_reply};
 use std::alloc::{AllocError, Global};
 use view9::{
-    BreakRun, Change, Changes, FIELDS, Field, SeenBreak, SeenExchange, Tally, Value, put_changes,
+    BreakRun, Change, Changes, FIELDS, Field, SeenBreak, SeenExchange, Tally, Text, Value,
+    put_changes,
 };
 
 /// What happened in a session.
@@ -19,7 +20,7 @@ pub(crate) struct Happened<'a> {
     alloc: Global,
     profile: &'a Profile,
     /// Room for the text of a line.
-    text: Vec<u8>,
+    text: Text,
     /// The queries since the last line that are not told.
     queries: Tally<'a>,
     /// The equal breaks since the last line. Where there are some, no query is counted.
@@ -44,7 +45,7 @@ impl<'a> Happened<'a> {
         Happened {
             alloc,
             profile,
-            text: Vec::new(alloc),
+            text: Text::new(alloc),
             queries: Tally::new(alloc, profile),
             run: None,
             changes: Changes::new(alloc, profile.hands),
@@ -136,13 +137,13 @@ impl<'a> Happened<'a> {
     /// Puts the line that counts queries, where there are some.
     fn put_queries(&mut self) -> Done {
         self.text.clear();
-        self.queries.put_counts(&mut self.text)?;
+        self.queries.put_counts(&mut self.text);
         if self.text.is_empty() || !self.folds.takes_line() {
             return Ok(());
         }
         let mut line = Markup::new(self.alloc);
         line.put_mark("<li class=\"counts\"><span>");
-        put_with_arrows(&mut line, self.text.as_slice());
+        put_with_arrows(&mut line, self.text.whole()?);
         end_line(&mut line);
         self.folds.keep(line)
     }
@@ -167,9 +168,9 @@ impl<'a> Happened<'a> {
         }
         self.text.clear();
         if asks && self.only_restores() {
-            self.put_restored()?;
+            self.put_restored();
         } else {
-            self.put_told(seen)?;
+            self.put_told(seen);
         }
         let mut line = Markup::new(self.alloc);
         begin_line(
@@ -178,17 +179,17 @@ impl<'a> Happened<'a> {
             seen.end_us,
             seen.last,
         );
-        put_with_arrows(&mut line, self.text.as_slice());
+        put_with_arrows(&mut line, self.text.whole()?);
         end_line(&mut line);
         self.folds.keep(line)
     }
 
     /// Puts the text of an exchange: the command, the reply, and what they change.
-    fn put_told(&mut self, seen: &SeenExchange<'_>) -> Done {
-        let text = &mut self.text;
-        put_command(text, "", self.profile, seen.exchange)?;
-        put_reply(text, " -> ", &seen.exchange.reply)?;
-        put_changes(text, self.changes.as_slice(), self.profile.rate)
+    fn put_told(&mut self, seen: &SeenExchange<'_>) {
+        let (text, profile) = (&mut self.text, self.profile);
+        text.put_with(|line| put_command(line, "", profile, seen.exchange))
+            .put_with(|line| put_reply(line, " -> ", &seen.exchange.reply));
+        put_changes(text, self.changes.as_slice(), profile.rate);
     }
 
     /// Whether all that changed is known again as it was before the last break, or at least that a register is set. That goal or shown
@@ -214,18 +215,17 @@ impl<'a> Happened<'a> {
     }
 
     /// Puts the text of what is known again.
-    fn put_restored(&mut self) -> Done {
-        put_text(&mut self.text, "known again: ")?;
+    fn put_restored(&mut self) {
+        self.text.put("known again: ");
         let mut before = "";
         for change in self.changes.as_slice() {
             if !is_passing(change) {
-                put_word(&mut self.text, before, change.field.name())?;
-                put_text(&mut self.text, " ")?;
-                change.to.put(&mut self.text, self.profile.rate)?;
+                let (text, rate) = (&mut self.text, self.profile.rate);
+                text.put(before).put(change.field.name()).put(" ");
+                text.put_with(|line| change.to.put(line, rate));
                 before = ", ";
             }
         }
-        Ok(())
     }
 
     /// Keeps what the registers that are only known to be set were before the last break.

@@ -3,7 +3,7 @@
 use crate::html::{begin_chart, begin_path, end_path, put_note, put_rest};
 use crate::table::{put_row_head, put_table_head};
 use picture9::{Done, Markup};
-use view9::{Field, Strength};
+use view9::{Field, Strength, Text};
 
 /// How many commands are listed after which a field was known no more. The others are counted.
 const MOST_LISTED: usize = 40;
@@ -101,10 +101,10 @@ fn put_ignored(html: &mut Markup, strength: &Strength<'_>) -> Done {
     if !strength.may_have_ignored() {
         return Ok(());
     }
-    let mut text = Vec::new(html.alloc());
-    strength.put_ignored(&mut text)?;
+    let mut text = Text::new(html.alloc());
+    strength.put_ignored(&mut text);
     html.put_mark("<p>");
-    if let [first, others @ ..] = text.as_slice() {
+    if let [first, others @ ..] = text.whole()? {
         html.put_foreign(&[first.to_ascii_uppercase()]);
         html.put_foreign(others);
     }
@@ -121,7 +121,9 @@ fn put_lapses(html: &mut Markup, strength: &Strength<'_>) {
     html.put_mark("<ul class=\"lapses\">\n");
     for (called, fields) in lapses.iter().take(MOST_LISTED) {
         html.put_mark("<li>");
-        html.put_with(|text| view9::put_lapses(text, *called, fields));
+        let mut text = Text::new(html.alloc());
+        view9::put_lapses(&mut text, *called, fields);
+        html.put_text(&text);
         html.put_mark("</li>\n");
     }
     html.put_mark("</ul>\n");

@@ -146,7 +146,7 @@ impl Listed {
         }
         let mut html = Markup::new(*self.lines.allocator());
         begin_line(&mut html, "", line.place.time_us, line.place.record);
-        html.put_foreign(line.text.as_slice());
+        html.put_foreign(line.text.whole()?);
         end_line(&mut html);
         self.lines.push(html)?;
         Ok(())

@@ -8,7 +8,7 @@ use deck9::{Hands, Profile};
 use picture9::Markup;
 use report9::Stretch;
 use std::alloc::{AllocError, Global};
-use view9::{SeenExchange, Touch, Touched};
+use view9::{SeenExchange, Text, Touch, Touched};
 
 /// How many touches are listed. The others are counted.
 const MOST_LISTED: usize = 300;
@@ -140,7 +140,9 @@ impl<'a> Touches<'a> {
     /// Puts the line of a touch.
     fn put_touch(&self, html: &mut Markup, touch: &Touch) {
         begin_line(html, "", touch.before.time_us, touch.before.record);
-        html.put_with(|changes| touch.put_changes(changes, self.profile.rate));
+        let mut changes = Text::new(html.alloc());
+        touch.put_changes(&mut changes, self.profile.rate);
+        html.put_text(&changes);
         end_line(html);
     }
 }

@@ -7,7 +7,7 @@ use crate::numbers::{put_px, put_thousands};
 use report9::{TextBuffer, put_count, put_hex, put_text};
 use std::alloc::{AllocError, Global};
 use std::marker::Model;
-use view9::put_fixed;
+use view9::{Text, put_fixed};
 
 /// The result of what takes memory, which may be refused.
 pub type Done = Result<(), AllocError>;
@@ -32,7 +32,7 @@ impl Model for Markup {
 }
 
 impl Markup {
-    ghost use Rattle.std.specs.Prelude.{◌≡◌, ◌≤◌, ◌++◌, [], ℕ, List, IfOk, IfErr, Some, None};
+    ghost use Rattle.std.specs.Prelude.{◌≡◌, ◌≤◌, ◌++◌, [], ℕ, List, IfOk, IfErr, Some, None, option_map};
     ghost use Rattle.std.specs.Fmt.{decimal};
     ghost use Rattle.picture9.specs.Markup.{escaped, IsPut};
 
@@ -87,6 +87,16 @@ impl Markup {
     {
         match text {
             Ok(text) => self.put_foreign(text.as_slice()),
+            Err(_) => self.is_short = true,
+        }
+    }
+
+    /// Puts the text of a view, as foreign text. Where memory was refused for a piece of that, one is missing here.
+    pub fn put_text(&mut self, text: &Text)
+        ensures { IsPut self.old self.new (option_map escaped text.now) }
+    {
+        match text.whole() {
+            Ok(text) => self.put_foreign(text),
             Err(_) => self.is_short = true,
         }
     }

@@ -1,9 +1,8 @@
 //! Equal breaks in a row, which are told in one line.
 
-use crate::decimal::put_seconds_between;
 use crate::seen::SeenBreak;
-use report9::{put_count, put_no_line, put_text, put_word};
-use std::alloc::AllocError;
+use crate::text::Text;
+use report9::put_no_line;
 
 /// Breaks in a row of one rule, with the same command open, where an exchange or a late reply comes between no two of them.
 #[derive(Clone, Copy)]
@@ -41,18 +40,21 @@ impl BreakRun {
     }
 
     /// Puts their line.
-    pub(crate) fn put(&self, line: &mut Vec<u8>) -> Result<(), AllocError> {
+    pub(crate) fn put(&self, line: &mut Text) {
         let first = &self.first;
         if self.breaks == 1 {
-            return put_no_line(line, first.at, first.reason);
+            line.put_with(|text| put_no_line(text, first.at, first.reason));
+            return;
         }
-        put_count(line, "no at records ", u64::from(first.at))?;
-        put_count(line, " to ", u64::from(self.last_at))?;
-        put_seconds_between(line, ", ", first.time_us, " s to ")?;
-        put_seconds_between(line, "", self.last_us, " s: ")?;
-        put_text(line, first.reason.name())?;
-        put_word(line, " ", first.reason.text())?;
-        put_count(line, ", ", u64::from(self.breaks))?;
-        put_text(line, " times\n")
+        line.put_count("no at records ", u64::from(first.at))
+            .put_count(" to ", u64::from(self.last_at))
+            .put_seconds(", ", first.time_us)
+            .put_seconds(" s to ", self.last_us)
+            .put(" s: ")
+            .put(first.reason.name())
+            .put(" ")
+            .put(first.reason.text())
+            .put_count(", ", u64::from(self.breaks))
+            .put(" times\n");
     }
 }

@@ -2,8 +2,8 @@
 
 use crate::field::{FIELDS, Field, Value};
 use crate::seen::SeenExchange;
+use crate::text::Text;
 use deck9::Hands;
-use report9::{put_text, put_word};
 use std::alloc::{AllocError, Global};
 use tc25::Rate;
 
@@ -127,22 +127,21 @@ impl Changes {
 
 impl Change {
     /// Puts it, with times at this rate.
-    pub(crate) fn put(&self, line: &mut Vec<u8>, rate: Rate) -> Result<(), AllocError> {
-        put_word(line, self.field.name(), ": ")?;
-        self.from.put(line, rate)?;
+    pub(crate) fn put(&self, line: &mut Text, rate: Rate) {
+        line.put(self.field.name()).put(": ");
+        line.put_with(|text| self.from.put(text, rate));
         if self.is_forgotten && self.from.is_known() {
-            put_text(line, ", unknown")?;
+            line.put(", unknown");
         }
-        put_text(line, " => ")?;
-        self.to.put(line, rate)
+        line.put(" => ");
+        line.put_with(|text| self.to.put(text, rate));
     }
 }
 
 /// Puts changes, with times at this rate.
-pub fn put_changes(line: &mut Vec<u8>, changes: &[Change], rate: Rate) -> Result<(), AllocError> {
+pub fn put_changes(line: &mut Text, changes: &[Change], rate: Rate) {
     for change in changes {
-        put_text(line, ", ")?;
-        change.put(line, rate)?;
+        line.put(", ");
+        change.put(line, rate);
     }
-    Ok(())
 }

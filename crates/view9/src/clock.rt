@@ -1,8 +1,8 @@
 //! The times of a report as a clock or in seconds, so that a record can be found again in the log or in the analyser that the capture
 //! came from. It takes any text.
 
-use crate::decimal::put_seconds;
-use report9::{TimeForm, WriteFault, put_count, put_text, write_all};
+use crate::text::Text;
+use report9::{TimeForm, WriteFault, write_all};
 use std::alloc::{AllocError, Global};
 use std::io::{self, BufRead, ErrorKind, Write};
 
@@ -30,7 +30,7 @@ pub fn write_clock<R: BufRead, W: Write>(
     form: TimeForm,
 ) -> Result<(), ClockFault> {
     let mut line = Vec::new(alloc);
-    let mut text = Vec::new(alloc);
+    let mut text = Text::new(alloc);
     for _ in 0..u64::MAX {
         line.clear();
         if reader.read_until(b'\n', &mut line)? == 0 {
@@ -38,23 +38,23 @@ pub fn write_clock<R: BufRead, W: Write>(
         }
         text.clear();
         let rest = match form {
-            TimeForm::Clock => put_head(&mut text, line.as_slice())?,
+            TimeForm::Clock => put_head(&mut text, line.as_slice()),
             TimeForm::Seconds => line.as_slice(),
         };
-        put_times(&mut text, rest, form)?;
-        write_all(writer, text.as_slice())?;
+        put_times(&mut text, rest, form);
+        write_all(writer, text.whole()?)?;
     }
     Ok(())
 }
 
 /// Puts a line of a digest or a motion up to its time, and the time as a clock: what comes after it. Of another line that is all.
-fn put_head<'a>(text: &mut Vec<u8>, line: &'a [u8]) -> Result<&'a [u8], AllocError> {
+fn put_head<'a>(text: &mut Text, line: &'a [u8]) -> &'a [u8] {
     let Some((before, time_us, after)) = parts_of_head(line) else {
-        return Ok(line);
+        return line;
     };
-    text.extend_from_slice(before)?;
-    put_time(text, time_us, TimeForm::Clock)?;
-    Ok(after)
+    text.put_bytes(before);
+    put_time(text, time_us, TimeForm::Clock);
+    after
 }
 
 /// What stands before the time of a line of a digest or a motion, the time in microseconds, and what stands after its unit.
@@ -75,7 +75,7 @@ fn parts_of_head(line: &[u8]) -> Option<(&[u8], u64, &[u8])> {
 }
 
 /// Puts a text with each time that stands after `at` in a form.
-fn put_times(text: &mut Vec<u8>, line: &[u8], form: TimeForm) -> Result<(), AllocError> {
+fn put_times(text: &mut Text, line: &[u8], form: TimeForm) {
     let mut done = 0;
     for (at, word) in line.windows(4).enumerate() {
         if word != b" at ".as_slice() {
@@ -85,11 +85,11 @@ fn put_times(text: &mut Vec<u8>, line: &[u8], form: TimeForm) -> Result<(), Allo
         let Some(digits) = time_at(line, from) else {
             continue;
         };
-        text.extend_from_slice(line.get(done..from).unwrap_or(&[]))?;
-        put_time(text, number_of(digits), form)?;
+        text.put_bytes(line.get(done..from).unwrap_or(&[]));
+        put_time(text, number_of(digits), form);
         done = from.saturating_add(digits.len());
     }
-    text.extend_from_slice(line.get(done..).unwrap_or(&[]))
+    text.put_bytes(line.get(done..).unwrap_or(&[]));
 }
 
 /// The digits of a time from this place on, where one stands there.
@@ -123,22 +123,23 @@ fn number_of(digits: &[u8]) -> u64 {
 }
 
 /// Puts a time in a form.
-fn put_time(text: &mut Vec<u8>, time_us: u64, form: TimeForm) -> Result<(), AllocError> {
+fn put_time(text: &mut Text, time_us: u64, form: TimeForm) {
     if form == TimeForm::Seconds {
-        return put_seconds(text, time_us);
+        text.put_seconds("", time_us);
+        return;
     }
     let minutes = time_us / 60_000_000;
     let seconds_us = time_us % 60_000_000;
-    put_two_digits(text, "", minutes / 60)?;
-    put_two_digits(text, ":", minutes % 60)?;
-    put_text(text, if seconds_us < 10_000_000 { ":0" } else { ":" })?;
-    put_seconds(text, seconds_us)
+    put_two_digits(text, "", minutes / 60);
+    put_two_digits(text, ":", minutes % 60);
+    let label = if seconds_us < 10_000_000 { ":0" } else { ":" };
+    text.put_seconds(label, seconds_us);
 }
 
 /// Puts a label and a number in two digits, or more where it has more.
-fn put_two_digits(text: &mut Vec<u8>, label: &str, number: u64) -> Result<(), AllocError> {
-    put_text(text, label)?;
-    put_count(text, if number < 10 { "0" } else { "" }, number)
+fn put_two_digits(text: &mut Text, label: &str, number: u64) {
+    let zero = if number < 10 { "0" } else { "" };
+    text.put(label).put_count(zero, number);
 }
 
 impl From<AllocError> for ClockFault {

@@ -1,14 +1,14 @@
 //! How long the deck took to reply: for each command how many replies came and after how long, and a histogram of all of them.
 
 use crate::called::Called;
-use crate::decimal::put_right;
 use crate::delay_counts::DelayCounts;
 use crate::follow::show;
 use crate::seen::{Ending, SeenBreak, SeenExchange, View, ViewOf};
+use crate::text::Text;
 use block9::{Exchange, REPLY_LIMIT_US};
 use deck9::Profile;
 use indexmap::IndexMap;
-use report9::{JudgeError, put_count, put_text, write_all};
+use report9::{JudgeError, write_all};
 use std::alloc::{AllocError, Global};
 use std::io::{Read, Write};
 
@@ -77,48 +77,44 @@ impl<W: Write> Delays<'_, W> {
     }
 
     /// Puts a line for each command, and one for all of them.
-    fn put_table(&self, text: &mut Vec<u8>, all: &DelayCounts) -> Result<(), AllocError> {
-        put_text(text, "replies  least middle   99th greatest  command\n")?;
+    fn put_table(&self, text: &mut Text, all: &DelayCounts) {
+        text.put("replies  least middle   99th greatest  command\n");
         for (called, counts) in self.of_command.iter() {
-            put_counts(text, counts)?;
-            called.put(text)?;
-            put_text(text, "\n")?;
+            put_counts(text, counts);
+            text.put_with(|text| called.put(text)).put("\n");
         }
-        put_counts(text, all)?;
-        put_text(text, "all\n")
+        put_counts(text, all);
+        text.put("all\n");
     }
 
     /// Puts the late replies.
-    fn put_late(&self, text: &mut Vec<u8>) -> Result<(), AllocError> {
+    fn put_late(&self, text: &mut Text) {
         for (at, delay_us) in self.late.iter() {
-            put_right(text, *delay_us, 12, " |late reply at record ")?;
-            put_count(text, "", u64::from(*at))?;
-            put_count(text, ", ", delay_us.saturating_sub(REPLY_LIMIT_US))?;
-            put_text(text, " above the limit\n")?;
+            text.put_right(*delay_us, 12)
+                .put_count(" |late reply at record ", u64::from(*at))
+                .put_count(", ", delay_us.saturating_sub(REPLY_LIMIT_US))
+                .put(" above the limit\n");
         }
         let others = self.late_replies.saturating_sub(MOST_LATE as u64);
         if others > 0 {
-            put_count(text, "         ... |and ", others)?;
-            put_text(text, " late replies more\n")?;
+            text.put_count("         ... |and ", others)
+                .put(" late replies more\n");
         }
-        Ok(())
     }
 
     /// Puts all of it.
-    fn put(&self, text: &mut Vec<u8>, ending: &Ending) -> Result<(), AllocError> {
-        let all = self.all()?;
+    fn put(&self, text: &mut Text, all: &DelayCounts, ending: &Ending) {
         if all.replies() > 0 {
-            self.put_table(text, &all)?;
-            put_histogram(text, &all)?;
+            self.put_table(text, all);
+            put_histogram(text, all);
         } else {
-            put_text(text, "no whole exchange\n")?;
+            text.put("no whole exchange\n");
         }
-        put_count(text, "  limit ", REPLY_LIMIT_US)?;
-        put_text(text, " |")?;
-        put_marks(text, "-", MOST_MARKS)?;
-        put_text(text, "\n")?;
-        self.put_late(text)?;
-        ending.put(text)
+        text.put_count("  limit ", REPLY_LIMIT_US).put(" |");
+        put_marks(text, "-", MOST_MARKS);
+        text.put("\n");
+        self.put_late(text);
+        ending.put(text);
     }
 }
 
@@ -150,39 +146,40 @@ impl<W: Write> View for Delays<'_, W> {
     }
 
     fn end(&mut self, ending: &Ending) -> Result<(), JudgeError> {
-        let mut text = Vec::new(self.alloc);
-        self.put(&mut text, ending)?;
-        Ok(write_all(self.writer, text.as_slice())?)
+        let all = self.all()?;
+        let mut text = Text::new(self.alloc);
+        self.put(&mut text, &all, ending);
+        Ok(write_all(self.writer, text.whole()?)?)
     }
 }
 
 /// Puts how many replies there are, and the least delay of them, the middle one, the 99th of a hundred and the greatest.
-fn put_counts(text: &mut Vec<u8>, counts: &DelayCounts) -> Result<(), AllocError> {
-    put_right(text, counts.replies(), 7, " ")?;
+fn put_counts(text: &mut Text, counts: &DelayCounts) {
     let [least, middle, nearly_all, greatest] = counts.told();
+    text.put_right(counts.replies(), 7).put(" ");
     for delay_us in [least, middle, nearly_all] {
-        put_right(text, delay_us, 6, " ")?;
+        text.put_right(delay_us, 6).put(" ");
     }
-    put_right(text, greatest, 8, "  ")
+    text.put_right(greatest, 8).put("  ");
 }
 
 /// Puts a bar for each stretch of delays up to the limit, with how many replies began then.
-fn put_histogram(text: &mut Vec<u8>, all: &DelayCounts) -> Result<(), AllocError> {
+fn put_histogram(text: &mut Text, all: &DelayCounts) {
     let bars = bars_of(all);
     let greatest = bars.iter().copied().max().unwrap_or(0);
     let mut from = 0u64;
     for replies in bars {
         let next = from.saturating_add(BAR_US);
         let to = next.saturating_sub(1).min(REPLY_LIMIT_US);
-        put_right(text, from, 4, " to ")?;
-        put_right(text, to, 4, " |")?;
         let marks = replies.saturating_mul(MOST_MARKS).div_ceil(greatest.max(1));
-        put_marks(text, "#", marks)?;
-        put_count(text, " ", replies)?;
-        put_text(text, "\n")?;
+        text.put_right(from, 4)
+            .put(" to ")
+            .put_right(to, 4)
+            .put(" |");
+        put_marks(text, "#", marks);
+        text.put_count(" ", replies).put("\n");
         from = next;
     }
-    Ok(())
 }
 
 /// How many replies began in each stretch of delays up to the limit.
@@ -198,9 +195,8 @@ fn bars_of(all: &DelayCounts) -> [u64; BARS] {
 }
 
 /// Puts so many marks.
-fn put_marks(text: &mut Vec<u8>, mark: &str, marks: u64) -> Result<(), AllocError> {
+fn put_marks(text: &mut Text, mark: &str, marks: u64) {
     for _ in 0..marks {
-        put_text(text, mark)?;
+        text.put(mark);
     }
-    Ok(())
 }

@@ -6,10 +6,11 @@ use crate::follow::show;
 use crate::seen::{Ending, SeenBreak, SeenExchange, View, ViewOf};
 use crate::strength::Strength;
 use crate::tally::Tally;
+use crate::text::Text;
 use crate::track::Place;
 use deck9::Profile;
-use report9::{JudgeError, put_command, put_count, put_no_line, put_reply, put_text, write_all};
-use std::alloc::{AllocError, Global};
+use report9::{JudgeError, put_command, put_no_line, put_reply, write_all};
+use std::alloc::Global;
 use std::io::{Read, Write};
 
 /// Writes the digest of the capture that the reader gives: how the capture ends. Each line is written as soon as it is known. The
@@ -23,7 +24,7 @@ pub fn write_digest<R: Read + Drop, W: Write>(
     let mut digest = Digest {
         profile: of.profile,
         writer,
-        line: Vec::new(alloc),
+        line: Text::new(alloc),
         folded: Tally::new(alloc, of.profile),
         breaks: None,
         changes: Changes::new(alloc, of.profile.hands),
@@ -39,7 +40,7 @@ struct Digest<'a, W: Write> {
     profile: &'a Profile,
     writer: &'a mut W,
     /// Room for lines.
-    line: Vec<u8>,
+    line: Text,
     /// The queries since the last line that are not told.
     folded: Tally<'a>,
     /// The equal breaks since the last line. Where there are some, no query is counted.
@@ -51,28 +52,27 @@ struct Digest<'a, W: Write> {
 
 impl<W: Write> Digest<'_, W> {
     /// Begins to put lines, with that of the queries or of the breaks since the last one.
-    fn put_since(&mut self) -> Result<(), AllocError> {
+    fn put_since(&mut self) {
         self.line.clear();
-        self.folded.put(&mut self.line)?;
+        self.folded.put(&mut self.line);
         if let Some(breaks) = self.breaks.take() {
-            breaks.put(&mut self.line)?;
+            breaks.put(&mut self.line);
         }
-        Ok(())
     }
 
     /// Puts the line of an exchange.
-    fn put_exchange(&mut self, seen: &SeenExchange<'_>) -> Result<(), AllocError> {
-        let line = &mut self.line;
-        Place::of(seen).put(line)?;
-        put_command(line, "", self.profile, seen.exchange)?;
-        put_reply(line, " -> ", &seen.exchange.reply)?;
-        put_changes(line, self.changes.as_slice(), self.profile.rate)?;
-        put_text(line, "\n")
+    fn put_exchange(&mut self, seen: &SeenExchange<'_>) {
+        let (line, profile) = (&mut self.line, self.profile);
+        Place::of(seen).put(line);
+        line.put_with(|text| put_command(text, "", profile, seen.exchange));
+        line.put_with(|text| put_reply(text, " -> ", &seen.exchange.reply));
+        put_changes(line, self.changes.as_slice(), profile.rate);
+        line.put("\n");
     }
 
     /// Writes the lines that were put.
     fn write(&mut self) -> Result<(), JudgeError> {
-        Ok(write_all(self.writer, self.line.as_slice())?)
+        Ok(write_all(self.writer, self.line.whole()?)?)
     }
 }
 
@@ -87,9 +87,9 @@ impl<W: Write> View for Digest<'_, W> {
         if !is_told && self.breaks.is_none() {
             return Ok(self.folded.count(seen.exchange)?);
         }
-        self.put_since()?;
+        self.put_since();
         if is_told {
-            self.put_exchange(seen)?;
+            self.put_exchange(seen);
         } else {
             self.folded.count(seen.exchange)?;
         }
@@ -101,8 +101,9 @@ impl<W: Write> View for Digest<'_, W> {
             return Ok(());
         }
         self.late_replies = self.late_replies.saturating_add(1);
-        self.put_since()?;
-        put_no_line(&mut self.line, late.at, late.reason)?;
+        self.put_since();
+        self.line
+            .put_with(|text| put_no_line(text, late.at, late.reason));
         self.write()
     }
 
@@ -116,7 +117,7 @@ impl<W: Write> View for Digest<'_, W> {
                 return Ok(());
             }
         }
-        self.put_since()?;
+        self.put_since();
         self.breaks = Some(BreakRun::new(broken));
         self.write()
     }
@@ -125,17 +126,14 @@ impl<W: Write> View for Digest<'_, W> {
         if let Ending::Verdict(_) = ending {
             self.breaks = None; // a no is the line of its break
         }
-        self.put_since()?;
-        ending.put(&mut self.line)?;
+        self.put_since();
+        ending.put(&mut self.line);
         if self.late_replies > 0 {
-            put_count(
-                &mut self.line,
-                "late replies: ",
-                u64::from(self.late_replies),
-            )?;
-            put_text(&mut self.line, "\n")?;
+            self.line
+                .put_count("late replies: ", u64::from(self.late_replies))
+                .put("\n");
         }
-        self.strength.put(&mut self.line)?;
+        self.strength.put(&mut self.line);
         self.write()
     }
 }

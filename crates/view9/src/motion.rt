@@ -5,6 +5,7 @@
 
 use crate::called::Called;
 use crate::seen::SeenExchange;
+use crate::text::Text;
 use crate::track::{Answer, Place, take_answer};
 use crate::transport::{Followed, Transport, Way};
 use crate::worth::Showing;
@@ -21,7 +22,7 @@ pub struct MotionLine {
     /// Whether it is worth looking at. Else it tells what came of a command.
     pub is_worth: bool,
     /// What it says, after the record and its time.
-    pub text: Vec<u8>,
+    pub text: Text,
 }
 
 /// What came of one command. A count stays at its greatest once that is reached.
@@ -192,8 +193,8 @@ impl<'a> Motion<'a> {
         }
         for is_worth in [false, true] {
             if !is_worth || followed.is_never_shown() {
-                let mut text = Vec::new(*self.told.allocator());
-                followed.put(&mut text, self.shown.as_slice())?;
+                let mut text = Text::new(*self.told.allocator());
+                followed.put(&mut text, self.shown.as_slice());
                 tell(&mut self.told, followed.place, is_worth, text)?;
             }
         }
@@ -237,7 +238,7 @@ pub(crate) fn tell(
     told: &mut Vec<MotionLine>,
     place: Place,
     is_worth: bool,
-    text: Vec<u8>,
+    text: Text,
 ) -> Result<(), AllocError> {
     if place.is_shown {
         told.push(MotionLine {

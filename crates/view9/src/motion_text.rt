@@ -1,11 +1,11 @@
 //! The text that tells the motion: a line for each command, a table of the responses, and what is worth looking at.
 
 use crate::called::Called;
-use crate::decimal::{put_blanks, put_right, put_seconds_between};
 use crate::follow::show;
 use crate::motion::{Motion, MotionLine, Outcome};
 use crate::seen::{Ending, SeenBreak, SeenExchange, View, ViewOf};
-use report9::{JudgeError, TextBuffer, put_count, put_text, write_all};
+use crate::text::Text;
+use report9::{JudgeError, write_all};
 use std::alloc::{AllocError, Global};
 use std::io::{Read, Write};
 
@@ -25,14 +25,14 @@ pub fn write_motion<R: Read + Drop, W: Write>(
     writer: &mut W,
     of: ViewOf<'_>,
 ) -> Result<Ending, JudgeError> {
-    let mut lines = Vec::new(alloc);
-    put_text(&mut lines, TITLE)?;
+    let mut lines = Text::new(alloc);
+    lines.put(TITLE);
     let mut text = MotionText {
         writer,
         motion: Motion::new(alloc, of.profile),
         lines,
         worth: 0,
-        worth_lines: Vec::new(alloc),
+        worth_lines: Text::new(alloc),
     };
     show(alloc, reader, &mut text, of)
 }
@@ -43,11 +43,11 @@ struct MotionText<'a, W: Write> {
     writer: &'a mut W,
     motion: Motion<'a>,
     /// Lines that are to be written.
-    lines: Vec<u8>,
+    lines: Text,
     /// How many lines are worth looking at.
     worth: u64,
     /// The first of these.
-    worth_lines: Vec<u8>,
+    worth_lines: Text,
 }
 
 impl<W: Write> MotionText<'_, W> {
@@ -60,7 +60,7 @@ impl<W: Write> MotionText<'_, W> {
             }
             self.worth = self.worth.saturating_add(1);
             if self.worth <= MOST_LISTED {
-                put_text(&mut self.worth_lines, "    ")?;
+                self.worth_lines.put("    ");
                 put_line(&mut self.worth_lines, line)?;
             }
         }
@@ -71,71 +71,69 @@ impl<W: Write> MotionText<'_, W> {
     }
 
     /// Puts the table of what came of the commands.
-    fn put_outcomes(&mut self) -> Result<(), AllocError> {
+    fn put_outcomes(&mut self) {
         let outcomes = self.motion.outcomes();
-        put_text(
-            &mut self.lines,
-            if outcomes.is_empty() {
-                "no transport command with a mode of its own was acknowledged\n"
-            } else {
-                "commands  shown  never    slowest s  at record  command\n"
-            },
-        )?;
+        self.lines.put(if outcomes.is_empty() {
+            "no transport command with a mode of its own was acknowledged\n"
+        } else {
+            "commands  shown  never    slowest s  at record  command\n"
+        });
         for (called, outcome) in outcomes.iter() {
-            put_outcome(&mut self.lines, *called, outcome)?;
+            put_outcome(&mut self.lines, *called, outcome);
         }
-        Ok(())
     }
 
     /// Puts how many lines are worth looking at, and the first of them.
     fn put_worth(&mut self) -> Result<(), AllocError> {
         if self.worth == 0 {
-            return put_text(&mut self.lines, "worth looking at: nothing\n");
+            self.lines.put("worth looking at: nothing\n");
+            return Ok(());
         }
-        put_count(&mut self.lines, "worth looking at: ", self.worth)?;
-        put_text(&mut self.lines, "\n")?;
-        self.lines.put(self.worth_lines.as_slice())?;
+        self.lines
+            .put_count("worth looking at: ", self.worth)
+            .put("\n")
+            .put_bytes(self.worth_lines.whole()?);
         if self.worth > MOST_LISTED {
-            put_count(&mut self.lines, "    ... and ", self.worth - MOST_LISTED)?;
-            put_text(&mut self.lines, " more\n")?;
+            self.lines
+                .put_count("    ... and ", self.worth - MOST_LISTED)
+                .put(" more\n");
         }
         Ok(())
     }
 
     /// Writes the lines.
     fn write(&mut self) -> Result<(), JudgeError> {
-        write_all(self.writer, self.lines.as_slice())?;
+        write_all(self.writer, self.lines.whole()?)?;
         self.lines.clear();
         Ok(())
     }
 }
 
 /// Puts a line, with its record and its time.
-fn put_line(lines: &mut Vec<u8>, line: &MotionLine) -> Result<(), AllocError> {
-    line.place.put(lines)?;
-    lines.put(line.text.as_slice())?;
-    put_text(lines, "\n")
+fn put_line(lines: &mut Text, line: &MotionLine) -> Result<(), AllocError> {
+    line.place.put(lines);
+    lines.put_bytes(line.text.whole()?).put("\n");
+    Ok(())
 }
 
 /// Puts the columns of a command.
-fn put_outcome(
-    line: &mut Vec<u8>,
-    called: Called<'_>,
-    outcome: &Outcome,
-) -> Result<(), AllocError> {
-    put_right(line, u64::from(outcome.commands), 8, " ")?;
-    put_right(line, u64::from(outcome.shown), 6, " ")?;
-    put_right(line, u64::from(outcome.never), 6, " ")?;
+fn put_outcome(line: &mut Text, called: Called<'_>, outcome: &Outcome) {
+    line.put_right(u64::from(outcome.commands), 8)
+        .put(" ")
+        .put_right(u64::from(outcome.shown), 6)
+        .put(" ")
+        .put_right(u64::from(outcome.never), 6)
+        .put(" ");
     match outcome.slowest_us {
-        Some(us) => {
-            put_blanks(line, us / 1_000_000, 5)?;
-            put_seconds_between(line, "", us, " ")?;
-            put_right(line, u64::from(outcome.slowest_at), 10, "  ")?;
-        }
-        None => put_text(line, "           -          -  ")?,
-    }
-    called.put(line)?;
-    put_text(line, "\n")
+        Some(us) => line
+            .put_blanks(us / 1_000_000, 5)
+            .put_seconds("", us)
+            .put(" ")
+            .put_right(u64::from(outcome.slowest_at), 10)
+            .put("  "),
+        None => line.put("           -          -  "),
+    };
+    line.put_with(|text| called.put(text)).put("\n");
 }
 
 impl<W: Write> View for MotionText<'_, W> {
@@ -152,9 +150,9 @@ impl<W: Write> View for MotionText<'_, W> {
     fn end(&mut self, ending: &Ending) -> Result<(), JudgeError> {
         self.motion.end_part()?;
         self.take_lines()?;
-        self.put_outcomes()?;
+        self.put_outcomes();
         self.put_worth()?;
-        ending.put(&mut self.lines)?;
+        ending.put(&mut self.lines);
         self.write()
     }
 }

@@ -1,11 +1,11 @@
 //! What a view is handed of a capture, one event after another.
 
+use crate::text::Text;
 use block9::{Command, Exchange, Reason};
 use deck9::{Knowledge, Profile};
 use report9::{
     JudgeError, Scope, Stretch, Totals, Verdict, WhyNo, put_totals_line, put_verdict_line,
 };
-use std::alloc::AllocError;
 
 /// An exchange, as it was seen on the line.
 #[derive(Drop)]
@@ -55,11 +55,11 @@ pub enum Ending {
 
 impl Ending {
     /// Puts its line.
-    pub(crate) fn put(&self, line: &mut Vec<u8>) -> Result<(), AllocError> {
-        match self {
-            Ending::Verdict(verdict) => put_verdict_line(line, *verdict),
-            Ending::Totals(totals) => put_totals_line(line, totals),
-        }
+    pub(crate) fn put(&self, line: &mut Text) {
+        line.put_with(|text| match self {
+            Ending::Verdict(verdict) => put_verdict_line(text, *verdict),
+            Ending::Totals(totals) => put_totals_line(text, totals),
+        });
     }
 }
 

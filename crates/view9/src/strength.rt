@@ -1,13 +1,12 @@
 //! How much was known of the deck, and what took it away: how strong a yes is.
 
 use crate::called::Called;
-use crate::decimal::put_fixed;
 use crate::field::{FIELDS, Field, Value};
 use crate::seen::SeenExchange;
+use crate::text::Text;
 use block9::{Command, Exchange};
 use deck9::Profile;
 use indexmap::IndexMap;
-use report9::{put_count, put_text, put_word};
 use std::alloc::{AllocError, Global};
 
 /// At how many exchanges each field was known, and after which commands it was known no more. A count stays at its greatest once
@@ -70,20 +69,19 @@ impl<'a> Strength<'a> {
     }
 
     /// Puts the lines that tell it, where there was an exchange.
-    pub fn put(&self, line: &mut Vec<u8>) -> Result<(), AllocError> {
+    pub fn put(&self, line: &mut Text) {
         if self.exchanges == 0 {
-            return Ok(());
+            return;
         }
-        self.put_known(line)?;
+        self.put_known(line);
         if self.may_have_ignored() {
-            self.put_ignored(line)?;
-            put_text(line, "\n")?;
+            self.put_ignored(line);
+            line.put("\n");
         }
         for (called, lapses) in self.lapses.iter() {
-            put_lapses(line, *called, lapses)?;
-            put_text(line, "\n")?;
+            put_lapses(line, *called, lapses);
+            line.put("\n");
         }
-        Ok(())
     }
 
     /// How many exchanges were counted.
@@ -112,18 +110,14 @@ impl<'a> Strength<'a> {
     }
 
     /// Puts what such a deck may have done, with no end of a line.
-    pub fn put_ignored(&self, line: &mut Vec<u8>) -> Result<(), AllocError> {
-        put_text(
-            line,
-            "local was never known: a deck in LOCAL may have ignored the ",
-        )?;
+    pub fn put_ignored(&self, line: &mut Text) {
+        line.put("local was never known: a deck in LOCAL may have ignored the ");
         if self.presets == 1 {
-            put_text(line, "preset")?;
+            line.put("preset");
         } else {
-            put_count(line, "", u64::from(self.presets))?;
-            put_text(line, " presets")?;
+            line.put_count("", u64::from(self.presets)).put(" presets");
         }
-        put_text(line, " that it acknowledged")
+        line.put(" that it acknowledged");
     }
 
     /// How often each field was known no more after a command, in the order in which the commands first came.
@@ -132,25 +126,25 @@ impl<'a> Strength<'a> {
     }
 
     /// Puts at how many of the exchanges each field was known.
-    fn put_known(&self, line: &mut Vec<u8>) -> Result<(), AllocError> {
-        put_count(line, "known, of ", u64::from(self.exchanges))?;
-        put_text(line, " exchanges: ")?;
+    fn put_known(&self, line: &mut Text) {
+        line.put_count("known, of ", u64::from(self.exchanges))
+            .put(" exchanges: ");
         for field in &Field::ALL {
             if *field != Field::Shown && !field.is_kept() {
                 continue;
             }
             // The shown mode comes first of them.
-            put_text(line, if *field == Field::Shown { "" } else { ", " })?;
-            put_word(line, field.name(), " ")?;
-            put_share(line, self.tenths(self.times_known(*field)))?;
+            line.put(if *field == Field::Shown { "" } else { ", " });
+            line.put(field.name()).put(" ");
+            put_share(line, self.tenths(self.times_known(*field)));
             let set = self.times_set(*field);
             if set > 0 {
-                put_text(line, " (set ")?;
-                put_share(line, self.tenths(set))?;
-                put_text(line, ")")?;
+                line.put(" (set ");
+                put_share(line, self.tenths(set));
+                line.put(")");
             }
         }
-        put_text(line, "\n")
+        line.put("\n");
     }
 }
 
@@ -167,26 +161,20 @@ fn is_preset(exchange: &Exchange) -> bool {
 }
 
 /// Puts tenths of a per cent as a percentage.
-fn put_share(line: &mut Vec<u8>, tenths: u64) -> Result<(), AllocError> {
-    put_fixed(line, tenths, 1)?;
-    put_text(line, " %")
+fn put_share(line: &mut Text, tenths: u64) {
+    line.put_fixed(tenths, 1).put(" %");
 }
 
 /// Puts how often each field was known no more after a command, with no end of a line.
-pub fn put_lapses(
-    line: &mut Vec<u8>,
-    called: Called<'_>,
-    lapses: &[u32; FIELDS],
-) -> Result<(), AllocError> {
-    put_text(line, "no longer known after ")?;
-    called.put(line)?;
+pub fn put_lapses(line: &mut Text, called: Called<'_>, lapses: &[u32; FIELDS]) {
+    line.put("no longer known after ");
+    line.put_with(|text| called.put(text));
     let lapsed = Field::ALL
         .iter()
         .filter(|field| lapses[**field as usize] > 0);
     for (place, field) in lapsed.enumerate() {
-        put_text(line, if place == 0 { ": " } else { ", " })?;
-        put_word(line, field.name(), " ")?;
-        put_count(line, "", u64::from(lapses[*field as usize]))?;
+        line.put(if place == 0 { ": " } else { ", " })
+            .put(field.name())
+            .put_count(" ", u64::from(lapses[*field as usize]));
     }
-    Ok(())
 }

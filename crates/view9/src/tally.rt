@@ -1,11 +1,12 @@
 //! The queries that are counted and not told.
 
 use crate::called::Called;
+use crate::text::Text;
 use bitflags::Flags;
 use block9::{Exchange, NakBits};
 use deck9::Profile;
 use indexmap::IndexMap;
-use report9::{put_count, put_nak, put_text};
+use report9::put_nak;
 use std::alloc::{AllocError, Global};
 
 /// A query, as far as one is told from another: those that the deck refused are apart, with its reasons.
@@ -43,34 +44,30 @@ impl<'a> Tally<'a> {
     }
 
     /// Puts the line that counts them, where there are some, and forgets them.
-    pub fn put(&mut self, line: &mut Vec<u8>) -> Result<(), AllocError> {
-        if self.counts.is_empty() {
-            return Ok(());
+    pub fn put(&mut self, line: &mut Text) {
+        if !self.counts.is_empty() {
+            line.put("... ");
+            self.put_counts(line);
+            line.put("\n");
         }
-        put_text(line, "... ")?;
-        self.put_counts(line)?;
-        put_text(line, "\n")
     }
 
     /// Puts how often each came, with commas between, and forgets them; nothing where there are none.
-    pub fn put_counts(&mut self, line: &mut Vec<u8>) -> Result<(), AllocError> {
+    pub fn put_counts(&mut self, line: &mut Text) {
         for (place, (query, count)) in self.counts.iter().enumerate() {
-            put_text(line, if place == 0 { "" } else { ", " })?;
-            put_query(line, *query, *count)?;
+            line.put(if place == 0 { "" } else { ", " });
+            put_query(line, *query, *count);
         }
         self.counts.clear();
-        Ok(())
     }
 }
 
 /// Puts how often a query came.
-fn put_query(line: &mut Vec<u8>, query: Query<'_>, count: u32) -> Result<(), AllocError> {
-    put_count(line, "", u64::from(count))?;
-    put_text(line, " ")?;
-    query.called.put(line)?;
+fn put_query(line: &mut Text, query: Query<'_>, count: u32) {
+    line.put_count("", u64::from(count)).put(" ");
+    line.put_with(|text| query.called.put(text));
     if let Some(bits) = query.nak {
-        put_text(line, " -> ")?;
-        put_nak(line, NakBits::from_bits_retain(bits))?;
+        line.put(" -> ");
+        line.put_with(|text| put_nak(text, NakBits::from_bits_retain(bits)));
     }
-    Ok(())
 }

@@ -1,13 +1,13 @@
 //! Where somebody must have touched the deck's front panel, as seldom as possible, and what changed.
 
 use crate::changes::Change;
-use crate::decimal::put_seconds_between;
 use crate::field::Field;
 use crate::follow::show;
 use crate::seen::{Ending, SeenExchange, View, ViewOf};
+use crate::text::Text;
 use block9::Exchange;
 use deck9::{Profile, State};
-use report9::{JudgeError, Verdict, known_state, put_count, put_text, write_all};
+use report9::{JudgeError, Verdict, known_state, write_all};
 use run9::{Move, fewest_moves};
 use std::alloc::{AllocError, Global};
 use std::io::{Read, Write};
@@ -99,7 +99,7 @@ impl Touched {
 
 impl Touch {
     /// Puts what it changed, with times at this rate.
-    pub fn put_changes(&self, line: &mut Vec<u8>, rate: Rate) -> Result<(), AllocError> {
+    pub fn put_changes(&self, line: &mut Text, rate: Rate) {
         let (from, to) = (known_state(&self.from), known_state(&self.to));
         let mut separator = "";
         for field in Field::ALL {
@@ -110,29 +110,29 @@ impl Touch {
                 to: field.value_in(&to),
             };
             if change.from != change.to {
-                put_text(line, separator)?;
-                change.put(line, rate)?;
+                line.put(separator);
+                change.put(line, rate);
                 separator = ", ";
             }
         }
-        Ok(())
     }
 
     /// Puts its line.
-    fn put(&self, line: &mut Vec<u8>, rate: Rate) -> Result<(), AllocError> {
-        self.after.put(line, "between record ")?;
-        self.before.put(line, ", and record ")?;
-        put_text(line, ": ")?;
-        self.put_changes(line, rate)?;
-        put_text(line, "\n")
+    fn put(&self, line: &mut Text, rate: Rate) {
+        self.after.put(line, "between record ");
+        self.before.put(line, ", and record ");
+        line.put(": ");
+        self.put_changes(line, rate);
+        line.put("\n");
     }
 }
 
 impl Moment {
     /// Puts it behind a label, with its time in seconds.
-    fn put(&self, line: &mut Vec<u8>, label: &str) -> Result<(), AllocError> {
-        put_count(line, label, u64::from(self.record))?;
-        put_seconds_between(line, ", ", self.time_us, " s")
+    fn put(&self, line: &mut Text, label: &str) {
+        line.put_count(label, u64::from(self.record))
+            .put_seconds(", ", self.time_us)
+            .put(" s");
     }
 }
 
@@ -168,32 +168,28 @@ impl<W: Write> View for Touches<'_, W> {
     }
 
     fn end(&mut self, ending: &Ending) -> Result<(), JudgeError> {
-        let mut lines = Vec::new(self.alloc);
+        let mut lines = Text::new(self.alloc);
         if let Ending::Verdict(Verdict::Yes { .. }) = ending {
             let touches = self.touched.touches(self.alloc, self.profile)?;
-            put_touches(&mut lines, touches.as_deref(), self.profile.rate)?;
+            put_touches(&mut lines, touches.as_deref(), self.profile.rate);
         }
-        ending.put(&mut lines)?;
-        Ok(write_all(self.writer, lines.as_slice())?)
+        ending.put(&mut lines);
+        Ok(write_all(self.writer, lines.whole()?)?)
     }
 }
 
 /// Puts the lines of the touches, or that no run was found, and how many there are.
-fn put_touches(
-    lines: &mut Vec<u8>,
-    touches: Option<&[Touch]>,
-    rate: Rate,
-) -> Result<(), AllocError> {
+fn put_touches(lines: &mut Text, touches: Option<&[Touch]>, rate: Rate) {
     let Some(touches) = touches else {
-        return put_text(lines, "touches unknown: the search found no run\n");
+        lines.put("touches unknown: the search found no run\n");
+        return;
     };
     for touch in touches {
-        touch.put(lines, rate)?;
+        touch.put(lines, rate);
     }
-    put_count(lines, "touches ", touches.len() as u64)?;
     let few = match touches {
         [] => ": nobody need have touched the panel\n",
         _ => ", as few as possible\n",
     };
-    put_text(lines, few)
+    lines.put_count("touches ", touches.len() as u64).put(few);
 }

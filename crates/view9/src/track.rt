@@ -1,9 +1,7 @@
 //! The times that a deck answers, followed from one to the next.
 
-use crate::decimal::{put_fixed, put_seconds_between};
 use crate::seen::SeenExchange;
-use report9::{TextBuffer, put_count, put_text, put_word};
-use std::alloc::AllocError;
+use crate::text::Text;
 use tc25::{Rate, TimeCode};
 
 /// A time jumps where what it moves by and what passes differ by more than this, in seconds.
@@ -66,9 +64,10 @@ impl Place {
     }
 
     /// Puts the record and its time, as a line begins.
-    pub(crate) fn put(self, line: &mut Vec<u8>) -> Result<(), AllocError> {
-        put_count(line, "record ", u64::from(self.record))?;
-        put_seconds_between(line, ", ", self.time_us, " s: ")
+    pub(crate) fn put(self, line: &mut Text) {
+        line.put_count("record ", u64::from(self.record))
+            .put_seconds(", ", self.time_us)
+            .put(" s: ");
     }
 }
 
@@ -95,8 +94,8 @@ impl Answer {
     }
 
     /// Puts the time.
-    pub(crate) fn put(&self, line: &mut Vec<u8>) -> Result<(), AllocError> {
-        line.put(&self.time.text_at(self.rate))
+    pub(crate) fn put(&self, line: &mut Text) {
+        line.put_bytes(&self.time.text_at(self.rate));
     }
 
     /// The frames from this time to a later answer's, the shorter way round the day: below 0 back.
@@ -171,19 +170,19 @@ impl Track {
     }
 
     /// Puts the first time and the last, the frames between them, and their ratio to real time.
-    pub(crate) fn put(&self, line: &mut Vec<u8>) -> Result<(), AllocError> {
-        self.first.put(line)?;
-        put_text(line, " to ")?;
-        self.last.put(line)?;
+    pub(crate) fn put(&self, line: &mut Text) {
+        self.first.put(line);
+        line.put(" to ");
+        self.last.put(line);
         let frames = self.moved.unsigned_abs();
-        put_count(line, if self.moved < 0 { ", -" } else { ", " }, frames)?;
-        put_word(line, " frame", if frames == 1 { "" } else { "s" })?;
         let hundredths = self.hundredths();
         let is_back = self.moved < 0 && hundredths > 0;
-        let sign = if is_back { " s, -" } else { " s, " };
-        put_seconds_between(line, " in ", self.elapsed_us(), sign)?;
-        put_fixed(line, hundredths, 2)?;
-        put_text(line, " of real time")
+        line.put_count(if self.moved < 0 { ", -" } else { ", " }, frames)
+            .put(if frames == 1 { " frame" } else { " frames" })
+            .put_seconds(" in ", self.elapsed_us())
+            .put(if is_back { " s, -" } else { " s, " })
+            .put_fixed(hundredths, 2)
+            .put(" of real time");
     }
 
     /// How many hundredths of real time it ran at, either way; a half is rounded up.
@@ -207,17 +206,17 @@ pub(crate) fn take_answer(track: &mut Option<Track>, answer: &Answer) {
 }
 
 /// Puts what was answered, at the end of a command's line.
-pub(crate) fn put_track(line: &mut Vec<u8>, track: &Option<Track>) -> Result<(), AllocError> {
+pub(crate) fn put_track(line: &mut Text, track: &Option<Track>) {
     let Some(track) = track else {
-        return Ok(());
+        return;
     };
-    put_word(line, "; ", track.name())?;
-    put_text(line, " ")?;
+    line.put("; ").put(track.name()).put(" ");
     if track.elapsed_us() > 0 {
-        return track.put(line);
+        track.put(line);
+    } else {
+        track.last.put(line);
+        line.put(" alone");
     }
-    track.last.put(line)?;
-    put_text(line, " alone")
 }
 
 /// So many frames last so many microseconds: as many as a second has labels. It belongs to tc25.

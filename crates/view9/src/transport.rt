@@ -1,13 +1,12 @@
 //! Transport commands: what each asks for, and what came of one that was acknowledged.
 
 use crate::called::Called;
-use crate::decimal::put_seconds_between;
 use crate::seen::SeenExchange;
+use crate::text::Text;
 use crate::track::{Place, Track, put_track};
 use block9::Command;
 use deck9::{Deck, Effect, Known, Mode, ModeSet, Profile};
-use report9::{put_count, put_modes, put_text, put_word};
-use std::alloc::AllocError;
+use report9::put_modes;
 
 /// Which way the tape runs by a command.
 #[derive(Clone, Copy, PartialEq, Eq)]
@@ -131,54 +130,56 @@ impl<'a> Followed<'a> {
     }
 
     /// Puts its text: what came of it, how often which modes were shown, and the times.
-    pub(crate) fn put(
-        &self,
-        line: &mut Vec<u8>,
-        shown: &[(ModeSet, u32)],
-    ) -> Result<(), AllocError> {
-        self.transport.called.put(line)?;
-        put_text(line, if self.is_local { " in local: " } else { ": " })?;
+    pub(crate) fn put(&self, line: &mut Text, shown: &[(ModeSet, u32)]) {
+        line.put_with(|text| self.transport.called.put(text));
+        line.put(if self.is_local { " in local: " } else { ": " });
         match (self.transport.mode, self.response_us) {
-            (Some(mode), Some(us)) => self.put_response(line, mode, us)?,
-            (mode, _) => self.put_statuses(line, mode)?,
+            (Some(mode), Some(us)) => self.put_response(line, mode, us),
+            (mode, _) => self.put_statuses(line, mode),
         }
-        put_shown(line, shown)?;
-        put_track(line, &self.times)
+        put_shown(line, shown);
+        put_track(line, &self.times);
     }
 
     /// Puts when the mode was shown first.
-    fn put_response(&self, line: &mut Vec<u8>, mode: Mode, us: u64) -> Result<(), AllocError> {
-        put_text(line, mode.name())?;
-        put_seconds_between(line, " shown after ", us, " s, by status ")?;
-        put_count(line, "", u64::from(self.response_status))?;
-        put_count(line, " of ", u64::from(self.statuses))
+    fn put_response(&self, line: &mut Text, mode: Mode, us: u64) {
+        line.put(mode.name())
+            .put_seconds(" shown after ", us)
+            .put_count(" s, by status ", u64::from(self.response_status))
+            .put_count(" of ", u64::from(self.statuses));
     }
 
     /// Puts how many statuses came, none of which showed the mode.
-    fn put_statuses(&self, line: &mut Vec<u8>, mode: Option<Mode>) -> Result<(), AllocError> {
+    fn put_statuses(&self, line: &mut Text, mode: Option<Mode>) {
         match mode {
-            Some(mode) if self.statuses > 0 => put_word(line, mode.name(), " not shown, ")?,
-            Some(_) => {}
-            None => put_text(line, "no mode of its own, ")?,
-        }
+            Some(mode) if self.statuses > 0 => line.put(mode.name()).put(" not shown, "),
+            Some(_) => line,
+            None => line.put("no mode of its own, "),
+        };
         if self.statuses == 0 {
-            return put_text(line, "no status");
+            line.put("no status");
+            return;
         }
-        let plural = if self.statuses == 1 { "" } else { "es" };
-        put_count(line, "", u64::from(self.statuses))?;
-        put_word(line, " status", plural)?;
-        put_seconds_between(line, " over ", self.statuses_us, " s")
+        let noun = if self.statuses == 1 {
+            " status"
+        } else {
+            " statuses"
+        };
+        line.put_count("", u64::from(self.statuses))
+            .put(noun)
+            .put_seconds(" over ", self.statuses_us)
+            .put(" s");
     }
 }
 
 /// Puts how often which modes were shown.
-fn put_shown(line: &mut Vec<u8>, shown: &[(ModeSet, u32)]) -> Result<(), AllocError> {
+fn put_shown(line: &mut Text, shown: &[(ModeSet, u32)]) {
     let mut before = " (";
     for (modes, statuses) in shown {
-        put_text(line, before)?;
-        put_modes(line, *modes)?;
-        put_count(line, " ", u64::from(*statuses))?;
+        line.put(before)
+            .put_with(|text| put_modes(text, *modes))
+            .put_count(" ", u64::from(*statuses));
         before = ", ";
     }
-    put_text(line, if shown.is_empty() { "" } else { ")" })
+    line.put(if shown.is_empty() { "" } else { ")" });
 }

@@ -1,11 +1,11 @@
 //! What is worth looking at of what a deck did.
 
-use crate::decimal::put_seconds_between;
 use crate::motion::{MotionLine, tell};
+use crate::text::Text;
 use crate::track::{Place, Track};
 use crate::transport::{Followed, Transport};
 use deck9::{Mode, ModeSet};
-use report9::{put_count, put_modes, put_text, put_word};
+use report9::put_modes;
 use std::alloc::AllocError;
 
 /// For how long a time stands still where that is worth looking at, in microseconds.
@@ -92,11 +92,11 @@ impl Showing {
         if track.still_us < STILL_US {
             return Ok(());
         }
-        let mut text = Vec::new(*told.allocator());
-        put_word(&mut text, still.name(), " stands still at ")?;
-        still.put(&mut text)?;
-        put_seconds_between(&mut text, " for ", track.still_us, " s")?;
-        self.put_while(&mut text)?;
+        let mut text = Text::new(*told.allocator());
+        text.put(still.name()).put(" stands still at ");
+        still.put(&mut text);
+        text.put_seconds(" for ", track.still_us).put(" s");
+        self.put_while(&mut text);
         tell(told, still.place, true, text)
     }
 
@@ -105,17 +105,18 @@ impl Showing {
         let Some((from, to)) = &track.jump else {
             return Ok(());
         };
-        let mut text = Vec::new(*told.allocator());
-        put_word(&mut text, to.name(), " jumps from ")?;
-        from.put(&mut text)?;
-        put_text(&mut text, " to ")?;
-        to.put(&mut text)?;
-        put_seconds_between(&mut text, " in ", to.place.since(from.place), " s")?;
+        let mut text = Text::new(*told.allocator());
+        text.put(to.name()).put(" jumps from ");
+        from.put(&mut text);
+        text.put(" to ");
+        to.put(&mut text);
+        text.put_seconds(" in ", to.place.since(from.place))
+            .put(" s");
         if track.jumps > 1 {
-            put_count(&mut text, ", the first of ", u64::from(track.jumps))?;
-            put_text(&mut text, " jumps")?;
+            text.put_count(", the first of ", u64::from(track.jumps))
+                .put(" jumps");
         }
-        self.put_while(&mut text)?;
+        self.put_while(&mut text);
         tell(told, to.place, true, text)
     }
 
@@ -126,16 +127,16 @@ impl Showing {
         track: &Track,
         against: Option<&Followed<'_>>,
     ) -> Result<(), AllocError> {
-        let mut text = Vec::new(*told.allocator());
-        put_word(&mut text, track.name(), " runs")?;
+        let mut text = Text::new(*told.allocator());
+        text.put(track.name()).put(" runs");
         if let Some(command) = against {
-            put_text(&mut text, " against ")?;
-            command.transport.called.put(&mut text)?;
-            put_count(&mut text, " of record ", u64::from(command.place.record))?;
+            text.put(" against ");
+            text.put_with(|text| command.transport.called.put(text));
+            text.put_count(" of record ", u64::from(command.place.record));
         }
-        put_text(&mut text, ", ")?;
-        track.put(&mut text)?;
-        self.put_while(&mut text)?;
+        text.put(", ");
+        track.put(&mut text);
+        self.put_while(&mut text);
         tell(told, self.from, true, text)
     }
 
@@ -146,9 +147,9 @@ impl Showing {
     }
 
     /// Puts what is shown meanwhile.
-    fn put_while(&self, text: &mut Vec<u8>) -> Result<(), AllocError> {
-        put_text(text, ", while ")?;
-        put_modes(text, self.modes)?;
-        put_text(text, " is shown")
+    fn put_while(&self, text: &mut Text) {
+        text.put(", while ")
+            .put_with(|text| put_modes(text, self.modes))
+            .put(" is shown");
     }
 }
