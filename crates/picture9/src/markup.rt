@@ -97,7 +97,7 @@ impl Markup {
     {
         match text.whole() {
             Ok(text) => self.put_foreign(text),
-            Err(_) => self.is_short = true,
+            Err(AllocError) => self.is_short = true,
         }
     }
 
