@@ -29,7 +29,7 @@ function last_place(from, a,    i, last) {
 }
 
 # the pairs that agree with one of a list in the goal, in the shown mode, in both or in neither
-function freed(a, keep,    key, p, q, mark, goals, modes) {
+function freed(a, keep,    key, p, q, mark) {
     key = a " " ("goal" in keep) ("shown" in keep)
     if (a && !(key in after_free)) {
         split("", mark)
