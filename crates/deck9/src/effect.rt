@@ -26,7 +26,7 @@ pub enum Change {
 /// What a command does to the deck. The effects are a choice of these rules.
 #[derive(Clone, Copy, Debug, PartialEq, Eq)]
 pub enum Effect {
-    /// Nothing, as a listed command does it; one that is not listed forgets nothing by `Forget`.
+    /// Nothing changes. An unlisted command never has this effect: it has `KeepOr` or `Forget`.
     Nothing,
     /// This becomes the commanded mode; the shown mode follows by drift.
     Go(Mode),
