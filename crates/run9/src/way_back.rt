@@ -169,7 +169,7 @@ fn step_back(
     ensures from { IfOk result (ComesFrom before.now exchange.now state) }
     ensures put { OnOk result (states.new.items ≡ states.old.items ++ state ∷ []) }
 {
-    let Some(earlier) = before.before_exchange(exchange, &state)? else {
+    let Some(earlier) = before.before_exchange(exchange, &state) else {
         unreachable!();
     };
     states.push(state)?;

@@ -1,20 +1,27 @@
 -- Some state of a set, and a state that an exchange leads to another one from: patterns of states, exactly those that
 -- an effect led from, drifts to them, and complete exchanges.
-use Rattle.track9.proofs.Words.{ComesToShow, Deck, way_of}
-use Rattle.track9.proofs.Words.{all_has, Allows, and-false, and_from, and_parts, any_goal, ap, AreBelow, arith, Pattern, pattern_before, wanted_of, Becomes, Block, Bool, both}
-use Rattle.track9.proofs.Words.{Change, Command, cond_both, Does, done, Drift, drift_from_pairs, drifted, drifted_with, Effect, effect_of, Entries, entries_of, Entry}
-use Rattle.track9.proofs.Words.{entry_before, entry_of, Exchanges, false, false≢true, Fits, goals_of, all_shown, Hands, hands_of, has, has-and, has_pair}
-use Rattle.track9.proofs.Words.{HasState, IfNone, IfSome, ignored, in_local, inl, InPart, inr, InHalves, Is, is_mode, is_mode-same, is_nak, remains_with_panel_on}
-use Rattle.track9.proofs.Words.{is_some, IsPattern, IsEntry, IsState, IsUndone, just_mode, just_state, LeadsTo, List, masked, Mode, mode_just, mode_self, mode_some, ModeSet}
-use Rattle.track9.proofs.Words.{no_entries, no_states, None, on_halves, Option, option_map, PairRunsTo, Part, Possible}
-use Rattle.track9.proofs.Words.{refl, refused, RegAudioIn, RegAudioOut, RegIn, Register, RegOut, rules, RunsTo, same_fact}
-use Rattle.track9.proofs.Words.{shown_with, Shows, Some, some_entry, some_mode, some_pair, State, States, DeckStep, Stop, subst, sym, true, true_from_ne_false, halves_of, way}
-use Rattle.track9.proofs.Words.{any_panel, AreWhole, KeepsOrGoes, KeepsPanel, panel_before, panel_switched, Profile, profile_of, Rate, rate_for, with_wanted, with_entry, ◌||◌, ◌↔◌, ◌∙◌, ◌≡◌, ◌⊎◌}
+use Rattle.track9.proofs.Words.{Agrees, Allows, AreBelow, AreWhole, At, Becomes, Block, Bool, Change, Clear, ComesTo, ComesToShow, Command, Deck}
+use Rattle.track9.proofs.Words.{DeckStep, Does, DoesOrIgnores, Drift, Effect, Entries, Entry, Exchange, Fits, Forgets, Forgotten, Goes, Hands}
+use Rattle.track9.proofs.Words.{HasState, IfNone, IfSome, InHalves, InPart, Is, IsEntry, IsIgnored, IsPattern, IsState, KeepsPanel, LeadsTo, List}
+use Rattle.track9.proofs.Words.{Mode, ModeSet, Next, None, Option, PairRunsTo, Part, Pattern, Possible, Prev, Profile, Rate, Recall, RegAudioIn}
+use Rattle.track9.proofs.Words.{RegAudioOut, RegIn, RegOut, Register, Reset, RunsTo, Sense, SetAt, SetSomewhere, Shows, Some, State, States, Stop}
+use Rattle.track9.proofs.Words.{all_has, all_shown, and-false, and_from, and_parts, any_goal, any_panel, ap, arith, both, cond_both, day, done}
+use Rattle.track9.proofs.Words.{drift_from_pairs, drifted, drifted_with, effect_of, entries_of, entry_before, entry_of, false, false≢true}
+use Rattle.track9.proofs.Words.{forgotten_before, forgotten_with, goals_of, halves_of, hands_of, has, has-and, has_pair, head_of, if◌then◌else◌}
+use Rattle.track9.proofs.Words.{ignored, in_local, inl, inr, is_as_wanted, is_mode, is_mode-same, is_nak, is_own, is_some, just_mode, just_state}
+use Rattle.track9.proofs.Words.{masked, mode_just, mode_some, moved_entry, nat_lt, nat_tests, next_frame, no_entries, no_states, on_halves, option_map}
+use Rattle.track9.proofs.Words.{panel_before, panel_switched, pattern_before, prev_frame, profile_of, rate_for, refl, refused, remains_with_panel_on}
+use Rattle.track9.proofs.Words.{rules, same_fact, sense_of, shown_with, some_entry, some_mode, some_pair, subst, sym, true, true_from_ne_false}
+use Rattle.track9.proofs.Words.{wanted_before, wanted_of, way, way_of, with_entry, with_wanted, ◌<◌, ◌||◌, ◌↔◌, ◌∙◌, ◌≡◌, ◌⊎◌}
 use Rattle.deck9.specs.declared.deck.Forgotten.TheVariants as forgotten
 use Rattle.deck9.specs.declared.effect.Effect.TheVariants as effect
+use Rattle.deck9.specs.declared.sense.Sense.TheVariants as sense
 use Rattle.deck9.specs.declared.state.Hands.TheVariants as hands
 use Rattle.std.specs.FinSet as set
 use Rattle.track9.specs.Working.Pattern.{any_tape}
+use Rattle.deck9.proofs.EffectLemmas.{does_valid}
+use Rattle.deck9.specs.Deck.{named_beside, unless_sensed}
+use Rattle.tc25.proofs.DayLemmas.{some_day}
 use Rattle.deck9.proofs.RestLemmas.{step_valid}
 use Rattle.track9.proofs.EffectLemmas.{masked_has}
 use Rattle.track9.proofs.EntryLemmas.{drifted_has, drifted_to, goals_has, goes_from, no_entry, pair_by_goal}
@@ -45,9 +52,29 @@ IsBefore (Some o) e = Is o e
 becomes_exactly : (rate : Rate) (c : Change) (old new : Entry) → IsEntry rate old → IsEntry rate new → IsBefore (entry_before rate c new) old ↔ Becomes rate c old new
 becomes_exactly rate c old new was is = grind arith
 
+-- an entry of the day that is wanted comes of it
+abbrev MakesEntry : Rate → Change → Option Entry → Entry → Type 0
+MakesEntry rate c w old = (e : Entry) × IsEntry rate e × Is w e × Becomes rate c old e
+
+makes_exactly : (rate : Rate) (c : Change) (w : Option Entry) (old : Entry) → IsEntry rate old → ((e : Entry) × IsEntry rate e × Is w e)
+    → IsBefore (wanted_before rate c w) old ↔ MakesEntry rate c w old
+makes_exactly rate c (Some new) old was (e, valid, same) = let exactly = becomes_exactly rate c old new was (subst (IsEntry rate) same valid) in (
+  λ b. (new, subst (IsEntry rate) same valid, refl, exactly.0 b),
+  λ (x, v, at, b). exactly.1 (subst (Becomes rate c old) at b),
+)
+makes_exactly rate SetSomewhere None old was there = (λ b. (At 0, some_day rate, tt, (0, some_day rate, refl)), λ m. tt)
+makes_exactly rate (SetAt t) None old was there = cond_both (nat_lt t (day rate)) (Some None) None (λ o. IsBefore o old ↔ MakesEntry rate (SetAt t) None old)
+    (λ low. let below : t < day rate = grind (arith, nat_tests, low) in (λ b. (At t, below, tt, (below, refl)), λ m. tt))
+    (λ high. (λ b. absurd b, λ (e, v, i, (below, same)). grind (arith, nat_tests, high, below)))
+makes_exactly rate Next None old was there = (λ b. (moved_entry (next_frame rate) old, grind arith, tt, refl), λ m. tt)
+makes_exactly rate Prev None old was there = (λ b. (moved_entry (prev_frame rate) old, grind arith, tt, refl), λ m. tt)
+makes_exactly rate Reset None old was there = (λ b. (Clear, tt, tt, refl), λ m. tt)
+makes_exactly rate Recall None old was there = (λ b. (old, was, tt, was), λ m. tt)
+
 -- there is one that was, where there can be
-entry_was : (rate : Rate) (c : Change) (new : Entry) → IsEntry rate new → IfSome (entry_before rate c new) (λ o. (x : Entry) × IsEntry rate x × Is o x)
-entry_was rate c new h = grind arith
+entry_was : (rate : Rate) (c : Change) (w : Option Entry) → ((e : Entry) × IsEntry rate e × Is w e)
+    → IfSome (wanted_before rate c w) (λ o. (x : Entry) × IsEntry rate x × Is o x)
+entry_was rate c w h = grind arith
 
 -- ---- what an effect may have led from
 
@@ -55,96 +82,159 @@ abbrev pub FitsSome : Option Pattern → State → Type 0
 FitsSome None d = ⊥
 FitsSome (Some a) d = Fits a d
 
-goal_state : (t d : State) (g : Mode) → t.goal ≡ g → Fits (any_goal t) d → t ≡ record d { goal = g }
-goal_state t d g same f = same_state t (record d { goal = g }) (sym same) (just_mode t.shown d.shown f.shown) f.ins f.outs f.ains f.aouts f.local f.panel
+-- the effect leads to a state of the day that is wanted
+abbrev pub Makes : Profile → Effect → Pattern → State → Type 0
+Makes p e a d = (t : State) × IsState p.rate t × Fits a t × Does p e d t
 
-fits_goal : (d : State) (g : Mode) → Fits (any_goal (record d { goal = g })) d
-fits_goal d g = search (rules, mode_just, all_has)
+-- ---- the same state but for some fields
 
--- a register alone differs
-change_exactly : (r : Register) (o : Option (Option Entry)) (t d : State)
-    → FitsSome (option_map (λ o. with_wanted r o (just_state t)) o) d ↔ (IsBefore o (entry_of r d) × (t ≡ with_entry r (entry_of r t) d))
-change_exactly r None t d = (λ f. absurd f, λ w. absurd w.0)
-change_exactly RegIn (Some o) t d = (λ f. search (rules, same_state, just_mode), λ (i, e). rw e (search (rules, mode_just)))
-change_exactly _ (Some o) t d = (λ f. search (rules, same_state, just_mode), λ (i, e). rw e (search (rules, mode_just)))
+-- other modes and switches
+day_again : (rate : Rate) (d : State) (g m : Mode) (l pn : Bool) → IsState rate d → IsState rate (record d { goal = g; shown = m; local = l; panel = pn })
+day_again rate d g m l pn valid = each_register _ (valid RegIn) (valid RegOut) (valid RegAudioIn) (valid RegAudioOut)
+
+-- the registers of another state
+day_of : (rate : Rate) (w d : State) → IsState rate w → IsState rate (record d { ins = w.ins; outs = w.outs; ains = w.ains; aouts = w.aouts })
+day_of rate w d valid = each_register _ (valid RegIn) (valid RegOut) (valid RegAudioIn) (valid RegAudioOut)
+
+-- another goal
+goal_fits : (a : Pattern) (d t : State) → t ≡ record d { goal = t.goal } → Fits a t → Fits (any_goal a) d
+goal_fits a d t same f = grind (arith, all_has)
+
+fits_goal : (a : Pattern) (d : State) (g : Mode) → has a.goals.0 g ≡ true → Fits (any_goal a) d → Fits a (record d { goal = g })
+fits_goal a d g there f = grind arith
+
+-- another entry in a register
+entry_wanted : (r : Register) (a : Pattern) (d : State) → Fits a d → Is (wanted_of r a) (entry_of r d)
+entry_wanted r a d f = each_register (λ r. Is (wanted_of r a) (entry_of r d)) f.ins f.outs f.ains f.aouts r
+
+entry_asked : (r : Register) (o : Option Entry) (a : Pattern) (d : State) → Fits (with_wanted r o a) d → Is o (entry_of r d)
+entry_asked r o a d f = grind arith
+
+fits_entry : (r : Register) (o : Option Entry) (a : Pattern) (e : Entry) (d : State) → Is (wanted_of r a) e → Fits (with_wanted r o a) d → Fits a (with_entry r e d)
+fits_entry r o a e d there f = grind arith
+
+entry_fits : (r : Register) (o : Option Entry) (a : Pattern) (e : Entry) (d : State) → Is o (entry_of r d) → Fits a (with_entry r e d) → Fits (with_wanted r o a) d
+entry_fits r o a e d there f = grind arith
+
+day_entry : (rate : Rate) (r : Register) (e : Entry) (d : State) → IsState rate d → IsEntry rate e → IsState rate (with_entry r e d)
+day_entry rate r e d valid new = put_each (λ q es. IsEntry rate) r (no_entries rate) (no_states rate) e d valid new
 
 pub same_facts : (a b : Bool) → (same_fact a b ≡ true) ↔ (a ≡ b)
 same_facts a b = grind arith
 
--- a state is one of the pattern exactly where the effect leads from it to t
-wanted_exactly : (p : Profile) (e : Effect) (t d : State) → IsState p.rate t → IsState p.rate d → FitsSome (pattern_before p.rate p.hands e t) d ↔ Does p e d t
-wanted_exactly p (effect.Go g) t d after before = cond_both (is_mode t.goal g) (Some (any_goal t)) None (λ o. FitsSome o d ↔ (t ≡ record d { goal = g }))
-    (λ e. (goal_state t d g (is_mode-same t.goal g e), λ goes. rw goes (fits_goal d g)))
-    (λ e. (λ f. absurd f, λ goes. absurd (false≢true (sym e ∙ rw goes (mode_self g)))))
-wanted_exactly p (effect.KeepOr goals) t d after before = cond_both (has goals.0 t.goal) (any_goal t) (just_state t)
-    (λ a. Fits a d ↔ KeepsOrGoes goals d t)
-    (λ e. (
-      λ f. inr (e, goal_state t d t.goal refl f),
-      λ w. elim w
-          [ inl keeps ↦ rw keeps (fits_goal d d.goal) | inr (goes, same) ↦ rw same (fits_goal d t.goal) ],
-    ))
-    (λ e. (λ f. inl (fits_just t d f), λ w. elim w [ inl keeps ↦ rw keeps (fits_self d) | inr (goes, same) ↦ absurd (false≢true (sym e ∙ goes)) ]))
-wanted_exactly p (effect.Change r c) t d after before =
-    let change = change_exactly r (entry_before p.rate c (entry_of r t)) t d in let becomes = becomes_exactly p.rate c (entry_of r d) (entry_of r t) (before r) (after r) in (
-      λ f. let w = change.0 f in (entry_of r t, becomes.0 w.0, w.1),
-      λ (e, b, same). let at : entry_of r t ≡ e = ap (entry_of r) same ∙ (put r e d).entry in change.1 (becomes.1 (rw at b), rw at same),
-    )
-wanted_exactly p (effect.Panel on) t d after before = by p.hands
-  where
-    by : (h : Hands) → FitsSome (panel_before h on t) d ↔ (t ≡ panel_switched h on d)
-    by hands.None = (fits_just t d, λ same. rw same (fits_self d))
-    by hands.Allowed = cond_both (same_fact t.panel on) (Some (record (just_state t) { panel = None })) None (λ o. FitsSome o d ↔ (t ≡ record d { panel = on }))
-        (λ e. (λ f. let same = sym ((same_facts t.panel on).0 e) in search (rules, same_state, just_mode), λ same. rw same (search (rules, mode_just))))
-        (λ e. (λ f. absurd f, λ same. absurd (false≢true (sym e ∙ (same_facts t.panel on).1 (rw same refl)))))
-wanted_exactly p (effect.Forget forgotten.Motion) t d after before = (
-  λ f. same_state t (record d { goal = t.goal; shown = t.shown }) refl refl f.ins f.outs f.ains f.aouts f.local f.panel,
-  λ same. grind (arith, all_has),
-)
-wanted_exactly p (effect.Forget forgotten.Tape) t d after before = (
-  λ f. (after, sym f.local, sym f.panel),
-  λ (valid, local, panel). rw (local, panel)
-      (search (rules, all_has)),
-)
-wanted_exactly p (effect.Forget forgotten.Registers) t d after before = (
-  λ f. (after, sym (just_mode t.goal d.goal f.goal), sym (just_mode t.shown d.shown f.shown), sym f.local, sym f.panel),
-  λ (valid, goal, shown, local, panel). rw (goal, shown, local, panel) (search (rules, mode_just)),
-)
-wanted_exactly p (effect.Forget forgotten.Everything) t d after before = by p.hands
-  where
-    by : (h : Hands) → Fits (any_panel h (record (any_tape (just_state t)) { local = None })) d ↔ (IsState p.rate t × KeepsPanel h d t)
-    by h = grind arith
-wanted_exactly p _ t d after before = (fits_just t d, λ same. rw same (fits_self d))
+pub as_wanted : (o : Option Bool) (b : Bool) → (is_as_wanted o b ≡ true) ↔ Is o b
+as_wanted o b = grind arith
 
--- a state of the day that is one of a pattern is wanted
-is_wanted : (rate : Rate) (o : Option Pattern) (d : State) → IsState rate d → FitsSome o d → IfSome o (IsPattern rate)
-is_wanted rate o d valid f = grind arith
+-- ---- which states are wanted
+
+change_exactly : (p : Profile) (r : Register) (c : Change) (a : Pattern) (d : State) (o : Option (Option Entry)) → IsState p.rate d
+    → (IsBefore o (entry_of r d) ↔ MakesEntry p.rate c (wanted_of r a) (entry_of r d))
+    → FitsSome (option_map (λ o. with_wanted r o a) o) d ↔ Makes p (effect.Change r c) a d
+change_exactly p r c a d None valid exactly = (
+  λ f. absurd f,
+  λ (t, day, f, (e, b, same)). let at : entry_of r t ≡ e = ap (entry_of r) same ∙ (put r e d).entry in
+      absurd (exactly.1 (e, subst (IsEntry p.rate) at (day r), subst (Is (wanted_of r a)) at (entry_wanted r a t f), b)),
+)
+change_exactly p r c a d (Some o) valid exactly = (
+  λ f. let (e, new, there, b) = exactly.0 (entry_asked r o a d f) in
+      (with_entry r e d, day_entry p.rate r e d valid new, fits_entry r o a e d there f, (e, b, refl)),
+  λ (t, day, f, (e, b, same)). let at : entry_of r t ≡ e = ap (entry_of r) same ∙ (put r e d).entry in
+      entry_fits r o a e d (exactly.1 (e, subst (IsEntry p.rate) at (day r), subst (Is (wanted_of r a)) at (entry_wanted r a t f), b)) (subst (Fits a) same f),
+)
+
+-- what is forgotten
+pub forgotten_exactly : (p : Profile) (g : Forgotten) (a : Pattern) (d : State) → IsPattern p.rate a → IsState p.rate d
+    → Fits (forgotten_before p.hands g a) d ↔ Makes p (effect.Forget g) a d
+forgotten_exactly p forgotten.Nothing a d wanted valid = (λ f. (d, valid, f, refl), λ (t, day, f, same). subst (Fits a) same f)
+forgotten_exactly p forgotten.Motion a d (w, there, fits) valid = (
+  λ f. (record d { goal = w.goal; shown = w.shown }, day_again p.rate d w.goal w.shown d.local d.panel valid, grind arith, refl),
+  λ (t, day, f, same). grind (arith, all_has),
+)
+forgotten_exactly p forgotten.Registers a d (w, there, fits) valid = (
+  λ f. (record d { ins = w.ins; outs = w.outs; ains = w.ains; aouts = w.aouts }, day_of p.rate w d there, grind arith, (day_of p.rate w d there, refl, refl, refl, refl)),
+  λ (t, day, f, (again, goal, shown, local, panel)). grind arith,
+)
+forgotten_exactly p forgotten.Tape a d (w, there, fits) valid =
+    let day = day_again p.rate w w.goal w.shown d.local d.panel there in (
+      λ f. (record w { local = d.local; panel = d.panel }, day, grind arith, (day, refl, refl)),
+      λ (t, day, f, (again, local, panel)). grind (arith, all_has),
+    )
+forgotten_exactly p forgotten.Everything a d (w, there, fits) valid = by p.hands
+  where
+    by : (h : Hands) → Fits (any_panel h (record (any_tape a) { local = None })) d ↔ ((t : State) × IsState p.rate t × Fits a t × (IsState p.rate t × KeepsPanel h d t))
+    by hands.None = let day = day_again p.rate w w.goal w.shown w.local d.panel there in (
+      λ f. (record w { panel = d.panel }, day, grind arith, (day, refl)),
+      λ (t, day, f, (again, panel)). grind (arith, all_has),
+    )
+    by hands.Allowed = (λ f. (w, there, fits, (there, tt)), λ (t, day, f, (again, free)). grind (arith, all_has))
+
+-- a state is one of the pattern exactly where the effect leads from it to a state that is wanted
+wanted_exactly : (p : Profile) (e : Effect) (a : Pattern) (d : State) → IsPattern p.rate a → IsState p.rate d
+    → FitsSome (pattern_before p.rate p.hands e a) d ↔ Makes p e a d
+wanted_exactly p effect.Nothing a d wanted valid = (λ f. (d, valid, f, refl), λ (t, day, f, same). subst (Fits a) same f)
+wanted_exactly p (effect.Go g) a d wanted valid = cond_both (has a.goals.0 g) (Some (any_goal a)) None (λ o. FitsSome o d ↔ Makes p (effect.Go g) a d)
+    (λ there. (
+      λ f. (record d { goal = g }, day_again p.rate d g d.shown d.local d.panel valid, fits_goal a d g there f, refl),
+      λ (t, day, f, same). goal_fits a d t (rw same refl) f,
+    ))
+    (λ gone. (λ f. absurd f, λ (t, day, f, same). absurd (false≢true (sym gone ∙ (rw same at f.goal)))))
+wanted_exactly p (effect.KeepOr goals) a d wanted valid = cond_both (is_some (both goals a.goals)) (any_goal a) a (λ b. Fits b d ↔ Makes p (effect.KeepOr goals) a d)
+    (λ some. (
+      λ f. let (g, both_have) = some_mode (both goals a.goals) some in let (one, other) = and_parts _ _ (sym (has-and goals.0 a.goals.0 g) ∙ both_have) in
+          (record d { goal = g }, day_again p.rate d g d.shown d.local d.panel valid, fits_goal a d g other f, inr (one, refl)),
+      λ (t, day, f, does). elim does [ inl same ↦ goal_fits a d t (rw same refl) f | inr (goes, same) ↦ goal_fits a d t same f ],
+    ))
+    (λ none. (
+      λ f. (d, valid, f, inl refl),
+      λ (t, day, f, does). elim does
+          [ inl same ↦ subst (Fits a) same f
+          | inr (goes, same) ↦ absurd (false≢true (sym none ∙ mode_some (both goals a.goals) t.goal (has-and goals.0 a.goals.0 t.goal ∙ and_from _ _ goes f.goal))) ],
+    ))
+wanted_exactly p (effect.Change r c) a d (w, there, fits) valid = change_exactly p r c a d (wanted_before p.rate c (wanted_of r a)) valid
+    (makes_exactly p.rate c (wanted_of r a) (entry_of r d) (valid r) (entry_of r w, there r, entry_wanted r a w fits))
+wanted_exactly p (effect.Panel on) a d wanted valid = by p.hands
+  where
+    by : (h : Hands) → FitsSome (panel_before h on a) d ↔ ((t : State) × IsState p.rate t × Fits a t × (t ≡ panel_switched h on d))
+    by hands.None = (λ f. (d, valid, f, refl), λ (t, day, f, same). subst (Fits a) same f)
+    by hands.Allowed = cond_both (is_as_wanted a.panel on) (Some (record a { panel = None })) None
+        (λ o. FitsSome o d ↔ ((t : State) × IsState p.rate t × Fits a t × (t ≡ record d { panel = on })))
+        (λ there. let is = (as_wanted a.panel on).0 there in (
+          λ f. (record d { panel = on }, day_again p.rate d d.goal d.shown d.local on valid, grind arith, refl),
+          λ (t, day, f, same). grind arith,
+        ))
+        (λ gone. (λ f. absurd f, λ (t, day, f, same). absurd (false≢true (sym gone ∙ (as_wanted a.panel on).1 (rw same at f.panel)))))
+wanted_exactly p (effect.Forget g) a d wanted valid = forgotten_exactly p g a d wanted valid
 
 -- a state of the day is among them
-pub wanted_state : (p : Profile) (e : Effect) (t : State) → IsState p.rate t → IfSome (pattern_before p.rate p.hands e t) (IsPattern p.rate)
-wanted_state p (effect.Go g) t valid = cond_both (is_mode t.goal g) (Some (any_goal t)) None (λ o. IfSome o (IsPattern p.rate)) (λ e. (t, valid, fits_goal t t.goal))
-    (λ e. tt)
-wanted_state p (effect.Change r c) t valid = by (entry_before p.rate c (entry_of r t)) (entry_was p.rate c (entry_of r t) (valid r))
+pub forgotten_state : (rate : Rate) (h : Hands) (g : Forgotten) (a : Pattern) → IsPattern rate a → IsPattern rate (forgotten_before h g a)
+forgotten_state rate h g a (w, there, fits) = (w, there, fits_more h g)
   where
-    by : (o : Option (Option Entry)) → IfSome o (λ o. (x : Entry) × IsEntry p.rate x × Is o x) → IfSome (option_map (λ o. with_wanted r o (just_state t)) o) (IsPattern p.rate)
-    by None w = tt
-    by (Some o) w = let at = put r w.0 t in (
-      with_entry r w.0 t,
-      put_each (λ q es. IsEntry p.rate) r (no_entries p.rate) (no_states p.rate) w.0 t valid w.1,
-      (change_exactly r (Some o) t (with_entry r w.0 t)).1
-          (rw at.entry w.2, sym at.again),
-    )
-wanted_state p (effect.Panel on) t valid = by p.hands
+    fits_more : (h : Hands) (g : Forgotten) → Fits (forgotten_before h g a) w
+    fits_more h g = grind (arith, all_has)
+
+pub wanted_state : (p : Profile) (e : Effect) (a : Pattern) → IsPattern p.rate a → IfSome (pattern_before p.rate p.hands e a) (IsPattern p.rate)
+wanted_state p effect.Nothing a wanted = wanted
+wanted_state p (effect.Go g) a (w, there, fits) = cond_both (has a.goals.0 g) (Some (any_goal a)) None (λ o. IfSome o (IsPattern p.rate))
+    (λ e. (w, there, goal_fits a w w refl fits)) (λ e. tt)
+wanted_state p (effect.KeepOr goals) a (w, there, fits) = cond_both (is_some (both goals a.goals)) (any_goal a) a (IsPattern p.rate)
+    (λ e. (w, there, goal_fits a w w refl fits)) (λ e. (w, there, fits))
+wanted_state p (effect.Change r c) a (w, there, fits) =
+    by (wanted_before p.rate c (wanted_of r a)) (entry_was p.rate c (wanted_of r a) (entry_of r w, there r, entry_wanted r a w fits))
   where
-    by : (h : Hands) → IfSome (panel_before h on t) (IsPattern p.rate)
-    by hands.None = (t, valid, fits_self t)
-    by hands.Allowed = cond_both (same_fact t.panel on) (Some (record (just_state t) { panel = None })) None (λ o. IfSome o (IsPattern p.rate))
-        (λ e. (t, valid, search (rules, mode_just))) (λ e. tt)
-wanted_state p (effect.Forget forgotten.Everything) t valid = by p.hands
+    by : (o : Option (Option Entry)) → IfSome o (λ o. (x : Entry) × IsEntry p.rate x × Is o x) → IfSome (option_map (λ o. with_wanted r o a) o) (IsPattern p.rate)
+    by None h = tt
+    by (Some o) (x, new, is) = let at = put r x w in
+        (with_entry r x w, day_entry p.rate r x w there new, entry_fits r o a (entry_of r w) (with_entry r x w) (rw at.entry is) (subst (Fits a) (sym at.again) fits))
+wanted_state p (effect.Panel on) a (w, there, fits) = by p.hands
   where
-    by : (h : Hands) → IsPattern p.rate (any_panel h (record (any_tape (just_state t)) { local = None }))
-    by hands.None = (t, valid, search (rules, all_has))
-    by hands.Allowed = (t, valid, search (rules, all_has))
-wanted_state p e t valid = is_wanted p.rate (pattern_before p.rate p.hands e t) t valid ((wanted_exactly p e t t valid valid).1 (search rules))
+    by : (h : Hands) → IfSome (panel_before h on a) (IsPattern p.rate)
+    by hands.None = (w, there, fits)
+    by hands.Allowed = cond_both (is_as_wanted a.panel on) (Some (record a { panel = None })) None (λ o. IfSome o (IsPattern p.rate)) (λ e. (w, there, grind arith)) (λ e. tt)
+wanted_state p (effect.Forget g) a wanted = forgotten_state p.rate p.hands g a wanted
+
+-- one in LOCAL is, where one may be
+pub local_state : (rate : Rate) (a : Pattern) → Is a.local true → IsPattern rate a → IsPattern rate (record a { local = Some true })
+local_state rate a is (w, there, fits) = (record w { local = true }, day_again rate w w.goal w.shown true w.panel there, grind arith)
 
 -- ---- some state of a set
 
@@ -231,41 +321,98 @@ shows_same deck p c reply d t does = grind arith
 -- ---- complete exchanges
 
 -- an exchange leads from states of the day to such states
-pub exchanged_state : (p : Profile) (c : Command) (reply : Block) (s t : State) → IsState p.rate s → Exchanges p c reply s t → IsState p.rate t
-exchanged_state p c reply s t valid (d, drift, step) = step_valid p (record { block = reply; command = c; reply = reply; time_us = 0; delay_us = 0 }) d t (drift_state p s d valid drift) step
-
-pub nak_exactly : (p : Profile) (c : Command) (reply : Block) (t : State) → is_nak reply ≡ true → (s : State)
-    → LeadsTo p (just_state t) s ↔ Exchanges p c reply s t
-nak_exactly p c reply t nak s = grind arith
+pub goes_state : (p : Profile) (e : Exchange) (s t : State) → IsState p.rate s → Goes p e s t → IsState p.rate t
+goes_state p e s t valid (u, (d, drift, step), forgets) =
+    does_valid p (effect.Forget (forgotten_with p.deck e)) u t (step_valid p e d u (drift_state p s d valid drift) step) forgets
 
 -- a drift leads from the state to one of a pattern, if there is a pattern
 abbrev pub LeadsSome : Profile → Option Pattern → State → Type 0
 LeadsSome p o s = (d : State) × Drift p s d × FitsSome o d
 
--- an exchange with no NAK: the reply agrees with the state after, and the command was left undone or had its effect
-pub exchange_exactly : {rate : Rate} {h : Hands} {e : Effect} {o : Option Pattern} (deck : Option Deck) (v : States) (c : Command) (reply : Block) (t : State) → is_nak reply ≡ false
-    → AreWhole (rate_for v) v → AreBelow v → IsState (rate_for v) t
-    → rate ≡ rate_for v → h ≡ hands_of v → e ≡ effect_of deck c → o ≡ pattern_before rate h e t
-    → (s : State) → Possible v s → Exchanges (profile_of deck v) c reply s t
-    ↔ (Shows (rate_for v) t c reply × ((IsUndone c t × LeadsTo (profile_of deck v) (just_state t) s) ⊎ LeadsSome (profile_of deck v) o s))
-exchange_exactly {o = o} deck v c reply t nak whole below after rate allowed effect wanted s i = (λ (d, drift, step). there d drift step, λ (shows, w). back shows w)
+-- the command was ignored, or had its effect
+comes_exactly : (p : Profile) (c : Command) (a : Pattern) (s : State) → IsPattern p.rate a → IsState p.rate s
+    → ComesTo p c a s ↔ ((IsIgnored c a × LeadsTo p (record a { local = Some true }) s) ⊎ LeadsSome p (pattern_before p.rate p.hands (effect_of p.deck c) a) s)
+comes_exactly p c a s wanted valid = (
+  λ (d, t, drift, day, does, f). elim does
+      [ inl does ↦ inr (d, drift, (wanted_exactly p (effect_of p.deck c) a d wanted (drift_state p s d valid drift)).1 (t, day, f, does))
+      | inr (may, local, same) ↦ let fits = subst (Fits a) same f in inl ((may, subst (Is a.local) local fits.local), (d, drift, grind arith)) ],
+  λ w. elim w
+      [ inl ((may, is), (d, drift, f)) ↦ (d, d, drift, drift_state p s d valid drift, inr (may, f.local, refl), grind arith)
+      | inr (d, drift, f) ↦ let (t, day, fits, does) = (wanted_exactly p (effect_of p.deck c) a d wanted (drift_state p s d valid drift)).0 f in
+          (d, t, drift, day, inl does, fits) ],
+)
+
+pub step_exactly : {rate : Rate} {h : Hands} {e : Effect} {o : Option Pattern} (deck : Option Deck) (v : States) (c : Command) (a : Pattern)
+    → AreWhole (rate_for v) v → AreBelow v → IsPattern (rate_for v) a
+    → rate ≡ rate_for v → h ≡ hands_of v → e ≡ effect_of deck c → o ≡ pattern_before rate h e a → (s : State) → Possible v s
+    → ComesTo (profile_of deck v) c a s ↔ ((IsIgnored c a × LeadsTo (profile_of deck v) (record a { local = Some true }) s) ⊎ LeadsSome (profile_of deck v) o s)
+step_exactly {o = o} deck v c a whole below wanted rate allowed effect is s there =
+    subst (λ o. ComesTo (profile_of deck v) c a s ↔ ((IsIgnored c a × LeadsTo (profile_of deck v) (record a { local = Some true }) s) ⊎ LeadsSome (profile_of deck v) o s))
+        found (comes_exactly (profile_of deck v) c a s wanted (possible_state (rate_for v) v s whole below there))
   where
-    found : pattern_before (rate_for v) (hands_of v) (effect_of deck c) t ≡ o
-    found = rw (← rate, ← allowed, ← effect) (sym wanted)
+    found : pattern_before (rate_for v) (hands_of v) (effect_of deck c) a ≡ o
+    found = rw (← rate, ← allowed, ← effect) (sym is)
 
-    there : (d : State) → Drift (profile_of deck v) s d → DeckStep (profile_of deck v) c reply d t
-        → Shows (rate_for v) t c reply × ((IsUndone c t × LeadsTo (profile_of deck v) (just_state t) s) ⊎ LeadsSome (profile_of deck v) o s)
-    there d drift (refused was e) = absurd (false≢true (sym nak ∙ was))
-    there d drift (done was shows does) = let valid = drift_state (profile_of deck v) s d (possible_state (rate_for v) v s whole below i) drift in (
-      (shows_same deck (profile_of deck v) c reply d t does).0 shows,
-      inr
-          (d, drift, subst (λ o. FitsSome o d) found ((wanted_exactly (profile_of deck v) (effect_of deck c) t d after valid).1 does)),
-    )
-    there d drift (ignored was shows may local e) = (rw e shows, inl ((may, rw e local), (d, drift, rw e (fits_self d))))
+-- the states from which forgetting leads to this one
+between_exactly : (p : Profile) (g : Forgotten) (u t : State) → IsState p.rate u → IsState p.rate t → Fits (forgotten_before p.hands g (just_state t)) u ↔ Forgets p g u t
+between_exactly p g u t was is = let exactly = forgotten_exactly p g (just_state t) u (t, is, fits_self t) was in (
+  λ f. let (x, day, fits, forgets) = exactly.0 f in subst (Forgets p g u) (sym (fits_just t x fits)) forgets,
+  λ forgets. exactly.1 (t, is, fits_self t, forgets),
+)
 
-    back : Shows (rate_for v) t c reply → (IsUndone c t × LeadsTo (profile_of deck v) (just_state t) s) ⊎ LeadsSome (profile_of deck v) o s → Exchanges (profile_of deck v) c reply s t
-    back shows (inl ((may, local), (d, drift, fits))) = let e = fits_just t d fits in (d, drift, ignored nak (rw (← e) shows) may (rw (← e) local) e)
-    back shows (inr (d, drift, fits)) =
-        let valid = drift_state (profile_of deck v) s d (possible_state (rate_for v) v s whole below i) drift in
-        let does = (wanted_exactly (profile_of deck v) (effect_of deck c) t d after valid).0 (subst (λ o. FitsSome o d) (sym found) fits) in
-        (d, drift, done nak ((shows_same deck (profile_of deck v) c reply d t does).1 shows) does)
+-- what is forgotten besides is nothing that the reply shows
+forgets_agree : (p : Profile) (k : Sense) (own nak : Bool) (g : Forgotten) (reply : Block) (u t : State) → Forgets p (if nak then forgotten.Nothing else unless_sensed k g) u t
+    → Agrees p.rate (if own then k else sense.Nothing) u reply ↔ Agrees p.rate (if own then k else sense.Nothing) t reply
+forgets_agree p sense.Nothing true nak g reply u t forgets = (λ x. x, λ x. x)
+forgets_agree p sense.Nothing false nak g reply u t forgets = (λ x. x, λ x. x)
+forgets_agree p (sense.Register r) own true g reply u t forgets = rw forgets (λ x. x, λ x. x)
+forgets_agree p (sense.Register r) own false g reply u t forgets = rw forgets (λ x. x, λ x. x)
+forgets_agree p (sense.Status asked) own true g reply u t forgets = rw forgets (λ x. x, λ x. x)
+forgets_agree p (sense.Status asked) own false g reply u t forgets = rw forgets (λ x. x, λ x. x)
+
+forgets_shows : (p : Profile) (e : Exchange) (u t : State) → Forgets p (forgotten_with p.deck e) u t → Shows p.rate u e.command e.reply ↔ Shows p.rate t e.command e.reply
+forgets_shows p e u t forgets =
+    forgets_agree p (sense_of e.command) (is_own e.command e.reply) (is_nak e.reply) (named_beside p.deck (head_of e.block)) e.reply u t forgets
+
+-- an exchange that got a NAK is a drift
+pub nak_exactly : (p : Profile) (e : Exchange) (s t : State) → is_nak e.reply ≡ true → LeadsTo p (just_state t) s ↔ Goes p e s t
+nak_exactly p e s t nak = (
+  λ (d, drift, fits). (t, (d, drift, refused nak (fits_just t d fits)), rw none refl),
+  λ (u, (d, drift, step), forgets). let same : t ≡ u = rw none at forgets in elim step
+      [ refused was e ↦ (d, drift, subst (λ t. Fits (just_state t) d) (sym (same ∙ e)) (fits_self d))
+      | done was shows does ↦ absurd (false≢true (sym was ∙ nak))
+      | ignored was shows may local e ↦ absurd (false≢true (sym was ∙ nak)) ],
+)
+  where
+    none : forgotten_with p.deck e ≡ forgotten.Nothing
+    none = rw nak refl
+
+-- with no NAK the reply agrees with the state after, and forgetting leads there from one that the command led to
+pub goes_exactly : (p : Profile) (e : Exchange) (s t : State) → is_nak e.reply ≡ false → IsState p.rate s → IsState p.rate t
+    → Goes p e s t ↔ (Shows p.rate t e.command e.reply × ComesTo p e.command (forgotten_before p.hands (forgotten_with p.deck e) (just_state t)) s)
+goes_exactly p e s t nak was is = (λ (u, (d, drift, step), forgets). there u d drift step forgets, λ (shows, (d, u, drift, day, does, fits)). back shows d u drift day does fits)
+  where
+    g : Forgotten
+    g = forgotten_with p.deck e
+
+    there : (u d : State) → Drift p s d → DeckStep p e.command e.reply d u → Forgets p g u t
+        → Shows p.rate t e.command e.reply × ComesTo p e.command (forgotten_before p.hands g (just_state t)) s
+    there u d drift (refused nak_too same) forgets = absurd (false≢true (sym nak ∙ nak_too))
+    there u d drift (done not_nak shows does) forgets =
+        let day = does_valid p (effect_of p.deck e.command) d u (drift_state p s d was drift) does in (
+          (forgets_shows p e u t forgets).0 ((shows_same p.deck p e.command e.reply d u does).0 shows),
+          (d, u, drift, day, inl does, (between_exactly p g u t day is).1 forgets),
+        )
+    there u d drift (ignored not_nak shows may local same) forgets =
+        let day = subst (IsState p.rate) (sym same) (drift_state p s d was drift) in (
+          (forgets_shows p e u t forgets).0 (rw same shows),
+          (d, u, drift, day, inr (may, local, same), (between_exactly p g u t day is).1 forgets),
+        )
+
+    back : Shows p.rate t e.command e.reply → (d u : State) → Drift p s d → IsState p.rate u → DoesOrIgnores p e.command d u
+        → Fits (forgotten_before p.hands g (just_state t)) u → Goes p e s t
+    back shows d u drift day does fits =
+        let forgets = (between_exactly p g u t day is).0 fits in let shown = (forgets_shows p e u t forgets).1 shows in
+        (u, (d, drift, elim does
+            [ inl does ↦ done nak ((shows_same p.deck p e.command e.reply d u does).1 shown) does
+            | inr (may, local, same) ↦ ignored nak (rw (← same) shown) may local same ]), forgets)

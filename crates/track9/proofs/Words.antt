@@ -31,8 +31,8 @@ pub use Rattle.std.specs.Ordering.{nat_cmp}
 pub use Rattle.tc25.proofs.DayLemmas.{given_reads, read_given}
 pub use Rattle.track9.specs.Presets.{AreTimes, IsSpanCount, one_more}
 pub use Rattle.track9.specs.Tracker.{IsIn}
-pub use Rattle.track9.specs.Working.Pattern.{any_goal, any_panel, panel_before, pattern_before, wanted_of, entry_before, Fits, Is, is_as_wanted, IsPattern, IsUndone, just_state, LeadsTo, PairRunsTo, RunsTo, same_fact}
-pub use Rattle.track9.specs.Working.Pattern.{with_wanted}
+pub use Rattle.track9.specs.Working.Pattern.{any_goal, any_panel, ComesTo, DoesOrIgnores, entry_before, Fits, forgotten_before, Is, is_as_wanted, IsIgnored, IsPattern, just_state, LeadsTo, PairRunsTo}
+pub use Rattle.track9.specs.Working.Pattern.{panel_before, pattern_before, RunsTo, same_fact, wanted_before, wanted_of, with_wanted}
 pub use Rattle.track9.specs.Working.Deck.{Agrees, Allows, AreReached, AreSet, Pattern, At, Becomes, begin_count, BelowDay, bit_of, Block, both, CanPass, Change, Clear, Command, count_of}
 pub use Rattle.deck9.specs.Drift.{ComesToShow}
 pub use Rattle.track9.specs.Working.Deck.{way_of, Deck, Forgotten}
@@ -58,6 +58,6 @@ pub use Rattle.track9.specs.Start.{StartsFrom}
 pub use Rattle.track9.specs.Working.Starts.{entries_known, modes_known, part_from, part_known, states_from, halves_from}
 pub use Rattle.track9.specs.declared.start.Start.{Start}
 pub use Rattle.track9.specs.Working.Deck.{Forgets, forgotten_beside, forgotten_with, Goes, head_of}
-pub use Rattle.track9.specs.Working.States.{AreForgotten, halves_forgotten, IsForgottenFromNone, IsReached, MayForget}
+pub use Rattle.track9.specs.Working.States.{AreForgotten, halves_forgotten}
 pub use Rattle.deck9.specs.declared.deck.Forgotten.TheVariants.{Everything, Motion, Nothing, Registers, Tape}
 pub use Rattle.track9.specs.Working.States.{halves_of, halves_sensed, halves_status, HalvesBelow, HalvesFew, HalvesWhole}

@@ -150,7 +150,7 @@ impl<S: TimeSet> Entries<S> {
     }
 
     /// Whether this is one of the entries.
-    pub(crate) fn has(&self, entry: &Entry) -> bool
+    fn has(&self, entry: &Entry) -> bool
         ensures { IsTrue result ↔ Allows self.now entry.now }
     {
         match entry {

@@ -1,13 +1,13 @@
 //! Which states are wanted: a pattern of fields, each fixed or free.
-ghost use Rattle.std.specs.Prelude.{◌≡◌, ◌↔◌, IsTrue};
-ghost use Rattle.track9.specs.Working.Pattern.{Is, any_motion, any_registers, any_tape, pattern_before, entry_before, is_as_wanted, just_state, with_wanted};
+ghost use Rattle.std.specs.Prelude.{◌≡◌, ◌↔◌, IsTrue, Some, true};
+ghost use Rattle.track9.specs.Working.Pattern.{Is, any_motion, any_registers, any_tape, entry_before, forgotten_before, is_as_wanted, just_state, pattern_before, wanted_before, wanted_of, with_wanted};
 
 use deck9::{Change, Effect, Entry, Forgotten, Hands, ModeSet, Register, State};
 use tc25::Rate;
 
 /// The states with one of these goals, one of these modes shown, and in each other field the value that is wanted, or
 /// any where none is.
-#[derive(Drop)]
+#[derive(Clone, Copy)]
 pub(crate) struct Pattern {
     pub(crate) goals: ModeSet,
     pub(crate) shown: ModeSet,
@@ -36,53 +36,80 @@ impl Pattern {
         }
     }
 
-    /// The states from which an effect, where the deck does it, leads to the target: None where there is none.
-    pub(crate) fn before(
-        rate: Rate,
-        hands: Hands,
-        effect: &Effect,
-        target: &State,
-    ) -> Option<Pattern>
-        ensures { result ≡ pattern_before rate hands effect.now target.now }
+    /// The states from which an effect, where the deck does it, leads to one of these: None where there is none.
+    pub(crate) fn before(&self, rate: Rate, hands: Hands, effect: &Effect) -> Option<Pattern>
+        ensures { result ≡ pattern_before rate hands effect.now self.now }
     {
-        let mut wanted = Pattern::just(target);
+        let mut wanted = *self;
         match effect {
-            Effect::Nothing | Effect::Forget(Forgotten::Nothing) => {}
+            Effect::Nothing => {}
             Effect::Go(goal) => {
-                if target.goal != *goal {
+                if !self.goals.has(*goal) {
                     return None;
                 }
                 wanted.goals = ModeSet::ALL;
             }
             Effect::KeepOr(goals) => {
-                if goals.has(target.goal) {
+                if goals.and(self.goals).is_some() {
                     wanted.goals = ModeSet::ALL;
                 }
             }
             Effect::Change(register, change) => {
-                let entry = entry_before(rate, change, target.entry(*register))?;
+                let entry = wanted_before(rate, change, self.entry(*register))?;
                 wanted.put(*register, entry);
             }
             Effect::Panel(on) => {
                 if hands == Hands::Allowed {
-                    if target.panel != *on {
+                    if !is_wanted(self.panel, *on) {
                         return None;
                     }
                     wanted.panel = None;
                 }
             }
-            Effect::Forget(Forgotten::Motion) => wanted.free_motion(),
-            Effect::Forget(Forgotten::Registers) => wanted.free_registers(),
-            Effect::Forget(Forgotten::Tape) => wanted.free_tape(),
-            Effect::Forget(Forgotten::Everything) => {
-                wanted.free_tape();
-                wanted.local = None;
+            Effect::Forget(forgotten) => wanted.forget(hands, *forgotten),
+        }
+        Some(wanted)
+    }
+
+    /// Makes of these the states from which forgetting leads to one of them.
+    pub(crate) fn forget(&mut self, hands: Hands, forgotten: Forgotten)
+        ensures { self.new ≡ forgotten_before hands forgotten self.old }
+    {
+        match forgotten {
+            Forgotten::Nothing => {}
+            Forgotten::Motion => self.free_motion(),
+            Forgotten::Registers => self.free_registers(),
+            Forgotten::Tape => self.free_tape(),
+            Forgotten::Everything => {
+                self.free_tape();
+                self.local = None;
                 if hands == Hands::Allowed {
-                    wanted.panel = None;
+                    self.panel = None;
                 }
             }
         }
-        Some(wanted)
+    }
+
+    /// Those in LOCAL alone.
+    pub(crate) fn in_local(&self) -> Pattern
+        ensures { result ≡ record self.now { local = Some true } }
+    {
+        Pattern {
+            local: Some(true),
+            ..*self
+        }
+    }
+
+    /// The entry that is wanted of a register, or None where any is.
+    fn entry(&self, register: Register) -> Option<Entry>
+        ensures { result ≡ wanted_of register self.now }
+    {
+        match register {
+            Register::RegIn => self.ins,
+            Register::RegOut => self.outs,
+            Register::RegAudioIn => self.ains,
+            Register::RegAudioOut => self.aouts,
+        }
     }
 
     /// Asks for an entry of a register, or for any.
@@ -121,6 +148,17 @@ impl Pattern {
     {
         self.free_registers();
         self.free_motion();
+    }
+}
+
+/// The entry of which a change makes one that is wanted: None where it makes it of no entry, and `Some(None)` where of any.
+fn wanted_before(rate: Rate, change: &Change, wanted: Option<Entry>) -> Option<Option<Entry>>
+    ensures { result ≡ wanted_before rate change.now wanted }
+{
+    match (wanted, change) {
+        (Some(entry), _) => entry_before(rate, change, &entry),
+        (None, Change::SetAt(set)) if set.frames() >= rate.frames_in_day() => None,
+        (None, _) => Some(None),
     }
 }
 

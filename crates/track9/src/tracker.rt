@@ -8,7 +8,7 @@ ghost use Rattle.deck9.specs.Contradict.{Passes};
 ghost use Rattle.deck9.specs.Drift.{Drift};
 ghost use Rattle.deck9.specs.Effect.{effect_of};
 ghost use Rattle.deck9.specs.State.{IsFirst};
-ghost use Rattle.deck9.specs.Step.{AreReached, Exchanges};
+ghost use Rattle.deck9.specs.Step.{AreReached, Exchanges, Goes};
 ghost use Rattle.track9.specs.Start.{StartsFrom};
 ghost use Rattle.track9.specs.Touched.{Touches};
 ghost use Rattle.track9.specs.Tracker.{Possible};
@@ -21,7 +21,7 @@ use crate::kept::Kept;
 use crate::presets::Presets;
 use crate::start::Start;
 use crate::states::States;
-use block9::{Block, Command};
+use block9::{Block, Command, Exchange};
 use deck9::{Hands, Knowledge, ModeSet, Profile, Register, State};
 use sets25::{SpanSet, TimeSet};
 use std::alloc::{AllocError, Global};
@@ -252,13 +252,14 @@ impl<'a, S: TimeSet> Tracker<'a, S> {
         self.states.before_drift(&self.deck, target)
     }
 
-    /// A possible state from which a drift and a step of the deck, with this reply to this command, lead to the target, or
-    /// `None` exactly where there is none. Which one it is of several is not said. Takes no memory.
-    pub fn before(&self, command: &Command, reply: &Block, target: &State) -> Option<State>
-        ensures some { IfSome result (λ s. Possible self.now.states s × Exchanges self.now.profile command.now reply.now s target.now) }
-        ensures none { IfNone result (¬ ((s : AState) × Possible self.now.states s × Exchanges self.now.profile command.now reply.now s target.now)) }
+    /// A possible state from which the exchange leads to the target, or `None` exactly where there is none: a drift, a step of the
+    /// deck with this reply to this command, and what the deck forgets besides. Which one it is of several is not said. Takes no
+    /// memory.
+    pub fn before_exchange(&self, exchange: &Exchange, target: &State) -> Option<State>
+        ensures some { IfSome result (λ s. Possible self.now.states s × Goes self.now.profile exchange.now s target.now) }
+        ensures none { IfNone result (¬ ((s : AState) × Possible self.now.states s × Goes self.now.profile exchange.now s target.now)) }
     {
-        self.states.before(&self.deck, command, reply, target)
+        self.states.before_exchange(&self.deck, exchange, target)
     }
 
     /// The modes that some possible state shows, with no bit above theirs. Takes no memory.

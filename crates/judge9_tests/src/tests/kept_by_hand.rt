@@ -91,7 +91,7 @@ fn drifts(alloc: Global, from: &State, to: &State) -> Result<bool, AllocError> {
 fn leads(alloc: Global, from: &State, exchange: &Exchange, to: &State) -> Result<bool, AllocError> {
     let profile = Profile::of(Hands::None);
     let tracker: Tracker<SpanSet> = Tracker::starting(alloc, &profile, &whole(from))?;
-    let before = tracker.before(&exchange.command, &exchange.reply, to);
+    let before = tracker.before_exchange(exchange, to);
     drop(tracker);
     Ok(before.is_some())
 }

@@ -1,6 +1,6 @@
 -- Which states an effect may have led from: a pattern of fields, each fixed or free.
-use Rattle.std.specs.Prelude.{if◌then◌else◌, ◌==◌, ◌≡◌}
-use Rattle.track9.specs.Working.Deck.{Pattern, At, bit_of, Bool, Change, Clear, Command, Deck, Drift, Effect, Entry, entry_of, false, Hands, has, has_pair, is_mode, IsState, KeepsRest}
+use Rattle.std.specs.Prelude.{if◌then◌else◌, nat_lt, ◌==◌, ◌≡◌, ◌⊎◌}
+use Rattle.track9.specs.Working.Deck.{Pattern, At, bit_of, Bool, both, Change, Clear, Command, day, Deck, Does, Drift, Effect, effect_of, Entry, entry_of, false, Forgotten, Hands, has, has_pair, is_some, IsState, KeepsRest}
 use Rattle.track9.specs.Working.Deck.{List, may_ignore, Mode, modes, ModeSet, moved_entry, Next, next_frame, None, Option, option_map, Pair, PairReaches, Prev, prev_frame, Profile, Rate}
 use Rattle.track9.specs.Working.Deck.{Recall, RegAudioIn, RegAudioOut, RegIn, Register, RegOut, Reset, SetAt, SetSomewhere, Some, State, true}
 use Rattle.deck9.specs.declared.deck.Forgotten.TheVariants as forgotten
@@ -70,9 +70,15 @@ entry_before rate Reset Clear = Some None
 entry_before rate Reset (At t) = None
 entry_before rate Recall e = Some None
 
--- the state with any goal
-abbrev pub any_goal : State → Pattern
-any_goal t = record (just_state t) { goals = modes 0x3FF }
+-- what it was that has become one that is wanted: a time that is none of the day becomes no entry
+abbrev pub wanted_before : Rate → Change → Option Entry → Option (Option Entry)
+wanted_before rate c (Some e) = entry_before rate c e
+wanted_before rate (SetAt t) None = if nat_lt t (day rate) then Some None else None
+wanted_before rate c None = Some None
+
+-- any goal
+abbrev pub any_goal : Pattern → Pattern
+any_goal a = record a { goals = modes 0x3FF }
 
 -- any registers
 abbrev pub any_registers : Pattern → Pattern
@@ -92,26 +98,38 @@ any_panel hands.None a = a
 any_panel hands.Allowed a = record a { panel = None }
 
 -- the states from which the panel was switched on or off
-abbrev pub panel_before : Hands → Bool → State → Option Pattern
-panel_before hands.None on t = Some (just_state t)
-panel_before hands.Allowed on t = if same_fact t.panel on then Some (record (just_state t) { panel = None }) else None
+abbrev pub panel_before : Hands → Bool → Pattern → Option Pattern
+panel_before hands.None on a = Some a
+panel_before hands.Allowed on a = if is_as_wanted a.panel on then Some (record a { panel = None }) else None
 
--- the states that the effect leads to this one from
-abbrev pub pattern_before : Rate → Hands → Effect → State → Option Pattern
-pattern_before rate h effect.Nothing t = Some (just_state t)
-pattern_before rate h (effect.Go g) t = if is_mode t.goal g then Some (any_goal t) else None
-pattern_before rate h (effect.KeepOr goals) t = Some (if has goals.0 t.goal then any_goal t else just_state t)
-pattern_before rate h (effect.Change r c) t = option_map (λ o. with_wanted r o (just_state t)) (entry_before rate c (entry_of r t))
-pattern_before rate h (effect.Panel on) t = panel_before h on t
-pattern_before rate h (effect.Forget forgotten.Nothing) t = Some (just_state t)
-pattern_before rate h (effect.Forget forgotten.Motion) t = Some (any_motion (just_state t))
-pattern_before rate h (effect.Forget forgotten.Registers) t = Some (any_registers (just_state t))
-pattern_before rate h (effect.Forget forgotten.Tape) t = Some (any_tape (just_state t))
-pattern_before rate h (effect.Forget forgotten.Everything) t = Some (any_panel h (record (any_tape (just_state t)) { local = None }))
+-- the states from which forgetting leads to one of these
+abbrev pub forgotten_before : Hands → Forgotten → Pattern → Pattern
+forgotten_before h forgotten.Nothing a = a
+forgotten_before h forgotten.Motion a = any_motion a
+forgotten_before h forgotten.Registers a = any_registers a
+forgotten_before h forgotten.Tape a = any_tape a
+forgotten_before h forgotten.Everything a = any_panel h (record (any_tape a) { local = None })
 
--- a deck in this state may have ignored the command
-abbrev pub IsUndone : Command → State → Type 0
-IsUndone c t = (may_ignore c ≡ true) × (t.local ≡ true)
+-- the states from which the effect leads to one of these
+abbrev pub pattern_before : Rate → Hands → Effect → Pattern → Option Pattern
+pattern_before rate h effect.Nothing a = Some a
+pattern_before rate h (effect.Go g) a = if has a.goals.0 g then Some (any_goal a) else None
+pattern_before rate h (effect.KeepOr goals) a = Some (if is_some (both goals a.goals) then any_goal a else a)
+pattern_before rate h (effect.Change r c) a = option_map (λ o. with_wanted r o a) (wanted_before rate c (wanted_of r a))
+pattern_before rate h (effect.Panel on) a = panel_before h on a
+pattern_before rate h (effect.Forget f) a = Some (forgotten_before h f a)
+
+-- the command's effect, or nothing where a deck in LOCAL ignores the command
+abbrev pub DoesOrIgnores : Profile → Command → State → State → Type 0
+DoesOrIgnores p c d t = Does p (effect_of p.deck c) d t ⊎ ((may_ignore c ≡ true) × (d.local ≡ true) × (t ≡ d))
+
+-- one of these may be in LOCAL, and have ignored the command
+abbrev pub IsIgnored : Command → Pattern → Type 0
+IsIgnored c a = (may_ignore c ≡ true) × Is a.local true
+
+-- a drift, and then the command's effect or nothing, lead from the state to one of those that are wanted
+abbrev pub ComesTo : Profile → Command → Pattern → State → Type 0
+ComesTo p c a s = (d t : State) × Drift p s d × IsState p.rate t × DoesOrIgnores p c d t × Fits a t
 
 -- ---- a drift before
 

@@ -3,8 +3,7 @@ use Rattle.std.specs.Prelude.{if◌then◌else◌, ◌+◌, ◌||◌, ◌≡◌,
 use Rattle.track9.specs.Working.Deck.{AreReached, begin_count, BelowDay, Block, Bool, CanPass, Change, Command, count_of, Deck, Does, Drift, Effect, effect_of, entries_of, false, Hands}
 use Rattle.track9.specs.Working.Deck.{in_local, InPart, is_nak, is_of_goal_or_register, Mode, ModeSet, None, Option, Part, Possible, Presets, Profile, Rate}
 use Rattle.track9.specs.Working.Deck.{presets_after, Register, SetAt, Some, State, States, Status, DeckStep, true, Halves, with_command, with_one, ℕ}
-use Rattle.block9.specs.declared.exchange.Exchange.{Exchange}
-use Rattle.track9.specs.Working.Deck.{Exchanges, Forgets, Forgotten, Tracked}
+use Rattle.track9.specs.Working.Deck.{Forgets, Forgotten}
 use Rattle.deck9.specs.declared.deck.Forgotten.TheVariants as forgotten
 use Rattle.deck9.specs.declared.effect.Effect.TheVariants as effect
 use Rattle.deck9.specs.declared.state.Hands.TheVariants as hands
@@ -253,15 +252,3 @@ Follows p command reply v w = AllLeadOn p (DriftsAndGoes (StepOrPass command rep
 -- the states after something is forgotten, whatever deck it is
 abbrev pub AreForgotten : Forgotten → States → States → Type 0
 AreForgotten forgotten v w = (deck : Option Deck) → AllLeadOn (profile_of deck v) (Forgets (profile_of deck v) forgotten) (λ n. n) v w
-
--- forgetting leads from one state to another, whatever deck it is
-abbrev pub MayForget : States → Forgotten → State → State → Type 0
-MayForget v forgotten s t = (deck : Option Deck) → Forgets (profile_of deck v) forgotten s t
-
--- it leads from no possible state to this one
-abbrev pub IsForgottenFromNone : States → Forgotten → State → Type 0
-IsForgottenFromNone v forgotten t = (deck : Option Deck) → ¬ ((s : State) × Possible v s × Forgets (profile_of deck v) forgotten s t)
-
--- an exchange leads from one of a tracker's states to this one, before what is forgotten besides
-abbrev pub IsReached : Tracked → Exchange → State → Type 0
-IsReached t e u = (s : State) × Possible t.states s × Exchanges t.profile e.command e.reply s u

@@ -1,13 +1,13 @@
 //! A state that an exchange leads to another one from.
 //!
-//! The states from which the step alone leads to the target are a pattern, or two of them. Whether a drift leads to a state of
-//! a pattern is asked factor by factor, so that no set is copied.
-ghost use Rattle.std.specs.Prelude.{◌≡◌, IfNone, IfSome, false, true};
+//! The states from which forgetting leads to the target are a pattern, and so are those from which an effect leads to one of a
+//! pattern, and those that may have ignored the command. Whether a drift leads to a state of a pattern is asked factor by factor,
+//! so that no set is copied.
+ghost use Rattle.std.specs.Prelude.{◌≡◌, IfNone, IfSome, Some, false, true};
 ghost use Rattle.deck9.specs.Drift.{Drift};
-ghost use Rattle.deck9.specs.State.{IsState};
-ghost use Rattle.deck9.specs.Step.{Exchanges};
+ghost use Rattle.deck9.specs.Step.{Goes};
 ghost use Rattle.track9.specs.Tracker.{Possible};
-ghost use Rattle.track9.specs.Working.Pattern.{Is, IsPattern, IsUndone, LeadsTo, RunsTo, just_state};
+ghost use Rattle.track9.specs.Working.Pattern.{ComesTo, Is, IsIgnored, IsPattern, LeadsTo, RunsTo};
 ghost use Rattle.track9.specs.Working.Parts.{HasState};
 ghost use Rattle.track9.specs.Working.States.{AreWhole, InHalves, remains_with_panel_on, halves_of, profile_of, rate_for};
 ghost use Rattle.deck9.specs.declared.state.State.{State as AState};
@@ -17,39 +17,70 @@ use crate::halves::Halves;
 use crate::part::Part;
 use crate::pattern::{Pattern, is_wanted};
 use crate::states::States;
-use block9::{Block, Command};
+use block9::{Command, Exchange};
 use deck9::{Register, State, may_ignore};
 use sets25::TimeSet;
 
 impl<S: TimeSet> States<S> {
     /// A state from which the exchange leads to the target: None exactly where there is none. Takes no memory.
-    pub(crate) fn before(
+    pub(crate) fn before_exchange(
         &self,
         deck: &DeckRef,
-        command: &Command,
-        reply: &Block,
+        exchange: &Exchange,
         target: &State,
     ) -> Option<State>
         requires { AreWhole (rate_for self.now) self.now }
-        ensures some { IfSome result (λ s. Possible self.now s × Exchanges (profile_of deck.now self.now) command.now reply.now s target.now) }
-        ensures none { IfNone result (¬ ((s : AState) × Possible self.now s × Exchanges (profile_of deck.now self.now) command.now reply.now s target.now)) }
+        ensures some { IfSome result (λ s. Possible self.now s × Goes (profile_of deck.now self.now) exchange.now s target.now) }
+        ensures none { IfNone result (¬ ((s : AState) × Possible self.now s × Goes (profile_of deck.now self.now) exchange.now s target.now)) }
     {
         self.below_day();
         if !target.is_of(self.rate()) {
             return None;
         }
-        if reply.is_nak() {
-            return self.origin(deck, &Pattern::just(target));
+        let mut wanted = Pattern::just(target);
+        if exchange.reply.is_nak() {
+            return self.origin(deck, &wanted);
         }
-        if !target.shows(self.rate(), command, reply) {
+        if !target.shows(self.rate(), &exchange.command, &exchange.reply) {
             return None;
         }
-        if let Some(state) = self.undone_origin(deck, command, target) {
+        wanted.forget(self.hands(), deck.forgotten_with(exchange));
+        self.before_step(deck, &exchange.command, &wanted)
+    }
+
+    /// A state from which a drift, and then the command's effect or nothing, lead to one of those that are wanted.
+    fn before_step(&self, deck: &DeckRef, command: &Command, wanted: &Pattern) -> Option<State>
+        requires whole { AreWhole (rate_for self.now) self.now }
+        requires wanted { IsPattern (rate_for self.now) wanted.now }
+        ensures some { IfSome result (λ s. Possible self.now s × ComesTo (profile_of deck.now self.now) command.now wanted.now s) }
+        ensures none { IfNone result (¬ ((s : AState) × Possible self.now s × ComesTo (profile_of deck.now self.now) command.now wanted.now s)) }
+    {
+        self.below_day();
+        if let Some(state) = self.ignored_origin(deck, command, wanted) {
             return Some(state);
         }
-        let effect = deck.effect(command);
-        let wanted = Pattern::before(self.rate(), self.hands(), &effect, target)?;
-        self.origin(deck, &wanted)
+        let before = wanted.before(self.rate(), self.hands(), &deck.effect(command))?;
+        self.origin(deck, &before)
+    }
+
+    /// A state from which a drift leads to one of those that are wanted, in LOCAL, where a deck in LOCAL may ignore the command.
+    fn ignored_origin(
+        &self,
+        deck: &DeckRef,
+        command: &Command,
+        wanted: &Pattern,
+    ) -> Option<State>
+        requires whole { AreWhole (rate_for self.now) self.now }
+        requires wanted { IsPattern (rate_for self.now) wanted.now }
+        ensures some { IfSome result (λ s. Possible self.now s × IsIgnored command.now wanted.now × LeadsTo (profile_of deck.now self.now) (record wanted.now { local = Some true }) s) }
+        ensures none { IfNone result (¬ ((s : AState) × Possible self.now s × IsIgnored command.now wanted.now × LeadsTo (profile_of deck.now self.now) (record wanted.now { local = Some true }) s)) }
+    {
+        let is_ignored = may_ignore(command);
+        let is_local = is_wanted(wanted.local, true);
+        if !is_ignored || !is_local {
+            return None;
+        }
+        self.origin(deck, &wanted.in_local())
     }
 
     /// A state from which a drift leads to the target: None exactly where there is none. Takes no memory.
@@ -60,20 +91,6 @@ impl<S: TimeSet> States<S> {
     {
         self.below_day();
         if !target.is_of(self.rate()) {
-            return None;
-        }
-        self.origin(deck, &Pattern::just(target))
-    }
-
-    /// A state from which a drift leads to the target, where a deck in LOCAL may ignore the command.
-    fn undone_origin(&self, deck: &DeckRef, command: &Command, target: &State) -> Option<State>
-        requires whole { AreWhole (rate_for self.now) self.now }
-        requires target { IsState (rate_for self.now) target.now }
-        ensures some { IfSome result (λ s. Possible self.now s × IsUndone command.now target.now × LeadsTo (profile_of deck.now self.now) (just_state target.now) s) }
-        ensures none { IfNone result (¬ ((s : AState) × Possible self.now s × IsUndone command.now target.now × LeadsTo (profile_of deck.now self.now) (just_state target.now) s)) }
-    {
-        let is_ignored = may_ignore(command);
-        if !is_ignored || !target.local {
             return None;
         }
         self.origin(deck, &Pattern::just(target))

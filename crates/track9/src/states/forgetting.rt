@@ -1,16 +1,10 @@
 //! What is forgotten of a set of states, without a drift.
-ghost use Rattle.std.specs.Prelude.{◌≡◌, ◌≢◌, ◌↔◌, IfNone, IfOk, IfSome, IsTrue, OnErr, OnOk, false, true};
-ghost use Rattle.deck9.specs.State.{IsState, entry_of};
-ghost use Rattle.deck9.specs.declared.state.Register.{Register as ARegister};
-ghost use Rattle.track9.specs.Tracker.{Allows, InPart, Possible, entries_of};
-ghost use Rattle.track9.specs.Working.Parts.{part_remains};
-ghost use Rattle.track9.specs.Working.States.{AreForgotten, AreWhole, IsForgottenFromNone, MayForget, halves_forgotten, halves_of, hands_of, part_of, rate_for};
+ghost use Rattle.std.specs.Prelude.{◌≡◌, ◌≢◌, IfOk, OnErr, OnOk, true};
+ghost use Rattle.track9.specs.Working.States.{AreForgotten, AreWhole, halves_forgotten, halves_of, hands_of, rate_for};
 
 use crate::halves::Halves;
-use crate::part::Part;
 use crate::states::States;
-use crate::states::member::state_in;
-use deck9::{Forgotten, Hands, Register, State};
+use deck9::{Forgotten, Hands};
 use sets25::TimeSet;
 use std::alloc::{AllocError, Global};
 
@@ -80,77 +74,4 @@ impl<S: TimeSet> States<S> {
             }
         }
     }
-
-    /// A state from which forgetting leads to the target: None exactly where there is none. Takes no memory.
-    pub(crate) fn before_forgetting(&self, forgotten: Forgotten, target: &State) -> Option<State>
-        requires { AreWhole (rate_for self.now) self.now }
-        ensures some { IfSome result (λ s. Possible self.now s × MayForget self.now forgotten s target.now) }
-        ensures none { IfNone result (IsForgottenFromNone self.now forgotten target.now) }
-    {
-        self.below_day();
-        if !target.is_of(self.rate()) {
-            return None;
-        }
-        if forgotten != Forgotten::Everything {
-            return self.like(forgotten, target);
-        }
-        if target.panel && self.hands() == Hands::None {
-            return None;
-        }
-        self.member()
-    }
-
-    /// The same, of a target with times of the day, where something but everything is forgotten: in the part with the target's local
-    /// and panel, the target with what is forgotten as it is in some state.
-    fn like(&self, forgotten: Forgotten, target: &State) -> Option<State>
-        requires whole { AreWhole (rate_for self.now) self.now }
-        requires target { IsState (rate_for self.now) target.now }
-        requires some { forgotten ≢ Forgotten.Everything }
-        ensures some { IfSome result (λ s. Possible self.now s × MayForget self.now forgotten s target.now) }
-        ensures none { IfNone result (IsForgottenFromNone self.now forgotten target.now) }
-    {
-        let part = self.part(target.local, target.panel)?;
-        let state = state_in(part, target.local, target.panel)?;
-        let made = target.with_forgotten(forgotten, &state);
-        if has_state(part, &made) {
-            Some(made)
-        } else {
-            None
-        }
-    }
-
-    /// The part with these values of local and of panel: none where there is nothing with the panel on.
-    fn part(&self, local: bool, panel: bool) -> Option<&Part<S>>
-        ensures some { IfSome result (λ p. p.now ≡ part_of self.entry.now local panel) }
-        ensures none { IfNone result (part_remains (part_of self.entry.now local panel) ≡ false) }
-    {
-        if !panel {
-            return Some(self.off.part(local));
-        }
-        match &self.on {
-            Some(on) => Some(on.part(local)),
-            None => None,
-        }
-    }
-}
-
-/// Whether a state is one of a part, whatever its local and panel.
-fn has_state<S: TimeSet>(part: &Part<S>, state: &State) -> bool
-    ensures { IsTrue result ↔ InPart part.now state.now }
-{
-    let has_pair = part.pairs().shown(state.goal).has(state.shown);
-    has_pair && allows_registers(part, state)
-}
-
-/// Whether each register may have the entry that it has in a state.
-fn allows_registers<S: TimeSet>(part: &Part<S>, state: &State) -> bool
-    ensures { IsTrue result ↔ ((r : ARegister) → Allows (entries_of r part.now) (entry_of r state.now)) }
-{
-    let ins = part.entries(Register::RegIn).has(&state.ins);
-    let outs = part.entries(Register::RegOut).has(&state.outs);
-    let ains = part.entries(Register::RegAudioIn).has(&state.ains);
-    let aouts = part.entries(Register::RegAudioOut).has(&state.aouts);
-    let allows_edit = ins && outs;
-    let allows_sound = ains && aouts;
-    allows_edit && allows_sound
 }

@@ -109,7 +109,7 @@ fn known_state_in<S: TimeSet>(
 }
 
 /// Some state of a part, with these values of local and of panel: none where the part has none.
-pub(crate) fn state_in<S: TimeSet>(part: &Part<S>, local: bool, panel: bool) -> Option<State>
+fn state_in<S: TimeSet>(part: &Part<S>, local: bool, panel: bool) -> Option<State>
     requires { Whole (rate_of part.now) part.now }
     ensures some { IfSome result (HasState part.now local panel) }
     ensures none { IfNone result (part_remains part.now ≡ false) }

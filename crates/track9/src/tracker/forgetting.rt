@@ -1,5 +1,5 @@
 //! What is forgotten, and complete exchanges with what is forgotten besides.
-ghost use Rattle.std.specs.Prelude.{◌≡◌, ◌↔◌, IfErr, IfNone, IfOk, IfSome, IsOk, IsTrue, OnErr, OnOk, false};
+ghost use Rattle.std.specs.Prelude.{◌≡◌, ◌↔◌, IfErr, IfOk, IsOk, IsTrue, OnErr, OnOk, false};
 ghost use Rattle.block9.specs.Block.{head_of};
 ghost use Rattle.deck9.specs.Contradict.{MayGo};
 ghost use Rattle.deck9.specs.Deck.{forgotten_beside};
@@ -8,12 +8,11 @@ ghost use Rattle.deck9.specs.Step.{AreReached, Goes, forgotten_with};
 ghost use Rattle.track9.specs.Frugal.{is_frugal, is_frugal_effect};
 ghost use Rattle.track9.specs.Presets.{presets_after, with_command};
 ghost use Rattle.track9.specs.Tracker.{Possible};
-ghost use Rattle.track9.specs.Working.States.{IsReached};
 ghost use Rattle.deck9.specs.declared.state.State.{State as AState};
 
 use crate::tracker::Tracker;
 use block9::Exchange;
-use deck9::{Forgotten, Hands, State};
+use deck9::{Forgotten, Hands};
 use sets25::TimeSet;
 use std::alloc::AllocError;
 use std::mem::replace;
@@ -159,57 +158,5 @@ impl<'a, S: TimeSet> Tracker<'a, S> {
         self.pass(&exchange.command)?;
         self.forget(forgotten)?;
         Ok(())
-    }
-
-    /// A possible state from which the exchange leads to the target, or `None` exactly where there is none. Which one it is of
-    /// several is not said.
-    ///
-    /// An error comes where memory is refused. None comes where the deck forgets nothing besides.
-    pub fn before_exchange(
-        &self,
-        exchange: &Exchange,
-        target: &State,
-    ) -> Result<Option<State>, AllocError>
-        ensures some { IfOk result (λ o. IfSome o (λ s. Possible self.now.states s × Goes self.now.profile exchange.now s target.now)) }
-        ensures none { IfOk result (λ o. IfNone o (¬ ((s : AState) × Possible self.now.states s × Goes self.now.profile exchange.now s target.now))) }
-        ensures frugal { forgotten_with self.now.profile.deck exchange.now ≡ Forgotten.Nothing → IsOk result }
-    {
-        match self.deck.forgotten_with(exchange) {
-            Forgotten::Nothing => Ok(self.before(&exchange.command, &exchange.reply, target)),
-            forgotten => match self.between(exchange, forgotten, target)? {
-                Some(between) => Ok(self.before(&exchange.command, &exchange.reply, &between)),
-                None => Ok(None),
-            },
-        }
-    }
-
-    /// A state to which an exchange leads, and from which forgetting this besides leads to the target.
-    fn between(
-        &self,
-        exchange: &Exchange,
-        forgotten: Forgotten,
-        target: &State,
-    ) -> Result<Option<State>, AllocError>
-        ensures some { IfOk result (λ o. IfSome o (λ u. IsReached self.now exchange.now u × Forgets self.now.profile forgotten u target.now)) }
-        ensures none { IfOk result (λ o. IfNone o (¬ ((u : AState) × IsReached self.now exchange.now u × Forgets self.now.profile forgotten u target.now))) }
-    {
-        let mut after = self.snapshot()?;
-        let between = after.observed_before(exchange, forgotten, target);
-        drop(after);
-        between
-    }
-
-    /// The same, by a tracker that takes the exchange itself.
-    fn observed_before(
-        &mut self,
-        exchange: &Exchange,
-        forgotten: Forgotten,
-        target: &State,
-    ) -> Result<Option<State>, AllocError>
-        ensures some { IfOk result (λ o. IfSome o (λ u. IsReached self.old exchange.now u × Forgets self.old.profile forgotten u target.now)) }
-        ensures none { IfOk result (λ o. IfNone o (¬ ((u : AState) × IsReached self.old exchange.now u × Forgets self.old.profile forgotten u target.now))) }
-    {
-        self.observe(&exchange.command, &exchange.reply)?;
-        Ok(self.states.before_forgetting(forgotten, target))
     }
 }

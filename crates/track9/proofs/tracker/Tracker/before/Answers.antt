@@ -1,7 +1,0 @@
-use Rattle.track9.proofs.tracker.Tracker.before.Goals as goal
-
-pub returns-clause-some : goal.returns-clause-some
-returns-clause-some g c = rw (← c.self.view_is) c.before-2.ensures.some
-
-pub returns-clause-none : goal.returns-clause-none
-returns-clause-none g c = rw (← c.self.view_is) c.before-2.ensures.none
