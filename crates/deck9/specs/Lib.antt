@@ -1,3 +1,4 @@
+pub mod Codes
 pub mod Contradict
 pub mod Deck
 pub mod Drift

@@ -57,7 +57,7 @@ fn shows_and_steps(
 fn passes_and_steps(profile: &Profile, exchange: &Exchange, before: &State, after: &State) -> bool
     ensures { IsTrue result ↔ PassesOne profile.now exchange.now before.now after.now }
 {
-    let way = profile.way(before.goal);
+    let way = profile.deck_ref().way(before.goal);
     for mode in Mode::ALL {
         if way.has(mode) && shows_and_steps(profile, exchange, before, mode, after) {
             return true;
@@ -86,9 +86,10 @@ fn steps_from_two(profile: &Profile, exchange: &Exchange, panel: bool, after: &S
     requires { IsState profile.now.rate after.now }
     ensures { IsTrue result ↔ StepsFromSome profile.now exchange.now panel after.now }
 {
-    let forgotten = profile.forgotten_with(exchange);
+    let deck = profile.deck_ref();
+    let forgotten = deck.forgotten_with(exchange);
     let same = before_forgetting(forgotten, after).with_panel(panel);
-    let back = before_shift(profile.rate, &profile.effect(&exchange.command), &same);
+    let back = before_shift(profile.rate, &deck.effect(&exchange.command), &same);
     let steps_from_same = steps(profile, exchange, &same, after);
     steps_from_same || steps(profile, exchange, &back, after)
 }

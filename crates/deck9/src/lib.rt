@@ -14,6 +14,7 @@
 
 mod at_25;
 mod deck;
+mod deck_ref;
 mod drift;
 mod effect;
 mod forgets;
@@ -33,6 +34,7 @@ mod step;
 
 pub use at_25::is_run;
 pub use deck::{Deck, Forgotten};
+pub use deck_ref::DeckRef;
 pub use effect::{Change, Effect};
 pub use knowledge::{Knowledge, Known, KnownEntry};
 pub use local::may_ignore;

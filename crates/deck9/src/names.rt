@@ -1,5 +1,5 @@
 //! What reports call a command.
-use crate::deck::Deck;
+use crate::deck_ref::DeckRef;
 use crate::profile::Profile;
 use block9::Command;
 
@@ -13,7 +13,7 @@ impl Profile {
         ensures { option_map (λ name. name.now) result ≡ name_told self.now.deck command.now }
     {
         match command {
-            Command::Unlisted { head } => Deck::name_for(self.deck.as_ref(), *head),
+            Command::Unlisted { head } => self.deck_ref().name_for(*head),
             _ => match command.name() {
                 Some(name) => Some(name.as_bytes()),
                 None => None,
@@ -22,15 +22,15 @@ impl Profile {
     }
 }
 
-impl Deck {
+impl<'a> DeckRef<'a> {
     ghost use Rattle.std.specs.Prelude.{◌≡◌, option_map};
     ghost use Rattle.deck9.specs.Names.{named_for};
 
-    /// The name that a deck has for the command with this head, which is not listed.
-    fn name_for<'a>(deck: Option<&'a Deck>, head: u32) -> Option<&'a [u8]>
-        ensures { option_map (λ name. name.now) result ≡ named_for (option_map (λ d. d.now) deck.entry) head }
+    /// The name that it has for the command with this head, which is not listed.
+    fn name_for(&self, head: u32) -> Option<&'a [u8]>
+        ensures { option_map (λ name. name.now) result ≡ named_for self.now head }
     {
-        match deck?.names.get(&head) {
+        match self.0?.names.get(&head) {
             Some(name) => Some(name.as_slice()),
             None => None,
         }

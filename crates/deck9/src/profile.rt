@@ -1,11 +1,8 @@
 //! What a deck is taken for.
 
-use crate::deck::{Deck, Forgotten};
-use crate::effect::Effect;
-use crate::mode::Mode;
-use crate::mode_set::ModeSet;
+use crate::deck::Deck;
+use crate::deck_ref::DeckRef;
 use crate::state::Hands;
-use block9::{Command, Exchange};
 use tc25::Rate;
 
 /// What a deck is taken for: the rate of its time code, whether hands may touch its panel, and what it does in place of what the
@@ -23,9 +20,6 @@ pub struct Profile {
 
 impl Profile {
     ghost use Rattle.std.specs.Prelude.{◌≡◌, None};
-    ghost use Rattle.deck9.specs.Deck.{way_of};
-    ghost use Rattle.deck9.specs.Effect.{effect_of};
-    ghost use Rattle.deck9.specs.Step.{forgotten_with};
 
     /// A deck of this rate that does what the rules say of every deck.
     pub fn at(rate: Rate, hands: Hands) -> Profile
@@ -38,24 +32,10 @@ impl Profile {
         }
     }
 
-    /// What a command does where it is acknowledged.
-    pub(crate) fn effect(&self, command: &Command) -> Effect
-        ensures { result ≡ effect_of self.now.deck command.now }
+    /// Its deck, if it has one.
+    pub fn deck_ref(&self) -> DeckRef<'_>
+        ensures { result ≡ self.entry.now.deck }
     {
-        Deck::effect(self.deck.as_ref(), command)
-    }
-
-    /// What it forgets with an exchange beside the effect of its command: nothing where that got a NAK.
-    pub(crate) fn forgotten_with(&self, exchange: &Exchange) -> Forgotten
-        ensures { result ≡ forgotten_with self.now.deck exchange.now }
-    {
-        Deck::forgotten_with(self.deck.as_ref(), exchange)
-    }
-
-    /// The modes that it may show on the way to a goal.
-    pub(crate) fn way(&self, goal: Mode) -> ModeSet
-        ensures { result ≡ way_of self.now.deck goal }
-    {
-        Deck::way(self.deck.as_ref(), goal)
+        DeckRef(self.deck.as_ref())
     }
 }

@@ -21,17 +21,13 @@ use tc25::Rate;
 pub(crate) fn steps(profile: &Profile, exchange: &Exchange, before: &State, after: &State) -> bool
     ensures { IsTrue result ↔ Steps profile.now exchange.now before.now after.now }
 {
-    let forgotten = profile.forgotten_with(exchange);
+    let deck = profile.deck_ref();
+    let forgotten = deck.forgotten_with(exchange);
     if forgotten == Forgotten::Nothing {
         return steps_alone(profile, exchange, before, after);
     }
-    let made = between(
-        profile,
-        &profile.effect(&exchange.command),
-        forgotten,
-        before,
-        after,
-    );
+    let effect = deck.effect(&exchange.command);
+    let made = between(profile, &effect, forgotten, before, after);
     let by_made = steps_and_forgets(profile, exchange, before, &made, after);
     by_made || steps_and_forgets(profile, exchange, before, before, after)
 }
@@ -47,7 +43,7 @@ fn steps_and_forgets(
     ensures { IsTrue result ↔ (DeckStep profile.now exchange.now.command exchange.now.reply before.now between.now
         × Forgets profile.now (forgotten_with profile.now.deck exchange.now) between.now after.now) }
 {
-    let forgotten = profile.forgotten_with(exchange);
+    let forgotten = profile.deck_ref().forgotten_with(exchange);
     let steps = steps_alone(profile, exchange, before, between);
     steps && forgets(profile, forgotten, between, after)
 }
@@ -63,7 +59,8 @@ fn steps_alone(profile: &Profile, exchange: &Exchange, before: &State, after: &S
         return false;
     }
     let is_ignored = may_ignore(&exchange.command) && before.local && after.is(before);
-    is_ignored || does(profile, &profile.effect(&exchange.command), before, after)
+    let effect = profile.deck_ref().effect(&exchange.command);
+    is_ignored || does(profile, &effect, before, after)
 }
 
 /// Whether an effect can take the deck from a state to another.

@@ -9,7 +9,7 @@ ghost use Rattle.judge9.specs.Working.Turns.{IsObserved, Took};
 use crate::event::{Break, Event};
 use block9::{Exchange, LineRules, Pairer, Reason, ReplyLimit, Step};
 use capture9::LineByte;
-use deck9::{Deck, Profile};
+use deck9::Profile;
 use sets25::SpanSet;
 use std::alloc::{AllocError, Global};
 use std::mem::replace;
@@ -31,7 +31,7 @@ fn line_rules<'a>(reply_limit: ReplyLimit, profile: &'a Profile) -> LineRules<'a
     LineRules {
         rate: profile.rate,
         reply_limit,
-        replies: Deck::replies(profile.deck.as_ref()),
+        replies: profile.deck_ref().replies(),
     }
 }
 

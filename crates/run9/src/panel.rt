@@ -1,7 +1,7 @@
 //! What exchanges do to the panel where hands are allowed, and states with the panel filled in.
 
 use block9::Exchange;
-use deck9::{Deck, Effect, Forgotten, Profile, State};
+use deck9::{Effect, Forgotten, Profile, State};
 
 /// What a command that is acknowledged, and what is forgotten besides, make of the panel.
 #[derive(Clone, Copy)]
@@ -19,11 +19,11 @@ fn switch_of(profile: &Profile, exchange: &Exchange) -> Option<Switch> {
     if exchange.reply.is_nak() {
         return None;
     }
-    let deck = profile.deck.as_ref();
-    if Deck::forgotten_with(deck, exchange) == Forgotten::Everything {
+    let deck = profile.deck_ref();
+    if deck.forgotten_with(exchange) == Forgotten::Everything {
         return Some(Switch::Free);
     }
-    match Deck::effect(deck, &exchange.command) {
+    match deck.effect(&exchange.command) {
         Effect::Panel(true) => Some(Switch::On),
         Effect::Panel(false) => Some(Switch::Off),
         Effect::Forget(Forgotten::Everything) => Some(Switch::Free),

@@ -1,18 +1,17 @@
 -- What is forgotten of a set of states.
-use Rattle.track9.proofs.Words.{AllLeadOn, ap, AreBelow, AreForgotten, AreReached, AreWhole, Deck, Everything, first_states, Forgets, Forgotten, Halves, halves_forgotten, halves_of}
-use Rattle.track9.proofs.Words.{Hands, hands_of, HalvesWhole, if◌then◌else◌, InHalves, LeadsOn, Motion, Nothing, Option, Possible, Presets, Profile, profile_of, Rate, rate_for, rate_in, refl}
-use Rattle.track9.proofs.Words.{Registers, Some, State, States, states_remain, subst, sym, Tape, true, untouched, ◌≡◌, ◌≢◌}
-use Rattle.track9.proofs.Words.{AreTracked, Bool, Exchange, Exchanges, false, forgotten_beside, forgotten_with, Goes, head_of, IsState, Passes, ◌↔◌}
+use Rattle.track9.proofs.Words.{AllLeadOn, AreForgotten, AreReached, AreTracked, AreWhole, Bool, Deck, Everything, Exchange, Exchanges, Forgets}
+use Rattle.track9.proofs.Words.{Forgotten, Goes, Halves, HalvesWhole, Hands, InHalves, IsState, LeadsOn, Nothing, Option, Passes, Presets, Profile}
+use Rattle.track9.proofs.Words.{Rate, Some, State, States, ap, false, first_states, forgotten_beside, forgotten_with, halves_forgotten, halves_of}
+use Rattle.track9.proofs.Words.{hands_of, head_of, if◌then◌else◌, profile_of, rate_for, rate_in, refl, states_remain, subst, sym, true, untouched, ◌↔◌}
+use Rattle.track9.proofs.Words.{◌≡◌, ◌≢◌, ◌⊎◌}
 use Rattle.deck9.specs.Contradict.{MayGo}
 use Rattle.deck9.specs.declared.effect.Effect.TheVariants as effect
 use Rattle.deck9.specs.declared.state.Hands.TheVariants as hands
 use Rattle.track9.proofs.EffectLemmas.{halves_forget}
-use Rattle.deck9.proofs.EffectLemmas.{does_valid, forgets_none}
+use Rattle.deck9.proofs.EffectLemmas.{forgets_none}
 use Rattle.track9.proofs.KnownLemmas.{whole_at_rate}
 use Rattle.track9.proofs.PanelLemmas.{deck_of, leads_forgotten, leads_off, panel_off, touched}
-use Rattle.track9.proofs.Words.{HasState, InPart, IsForgottenFromNone, MayForget, Part, part_of, part_remains, RegAudioIn, RegAudioOut, RegIn, RegOut, ◌⊎◌}
-use Rattle.deck9.specs.Effect.{with_forgotten}
-use Rattle.track9.proofs.PartLemmas.{both_few, by_panel, each_register, halves_rate, not_live, of_halves, possible_state, to_halves}
+use Rattle.track9.proofs.PartLemmas.{both_few, by_panel, halves_rate}
 use Rattle.std.proofs.Common.{arith}
 
 -- ---- with both

@@ -6,9 +6,8 @@ ghost use Rattle.deck9.specs.declared.state.State.{State as AState};
 ghost use Rattle.track9.specs.Presets.{count_of};
 ghost use Rattle.track9.specs.Tracker.{Possible};
 
-use crate::deck_ref::DeckRef;
 use crate::tracker::Tracker;
-use deck9::Hands;
+use deck9::{DeckRef, Hands};
 use sets25::TimeSet;
 use std::alloc::{AllocError, Global};
 use tc25::Rate;

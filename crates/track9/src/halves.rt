@@ -13,11 +13,10 @@ ghost use Rattle.track9.specs.Tracker.{entries_of, in_local};
 ghost use Rattle.track9.specs.Working.Starts.{part_from, halves_from};
 ghost use Rattle.track9.specs.Working.States.{HalvesBelow, HalvesWhole, all_forgotten, all_or_none, motion_forgotten, rate_in, registers_forgotten, halves_remain, halves_changed, halves_drifted, halves_forgotten, halves_gone, halves_kept_or_gone, halves_sensed, halves_status};
 
-use crate::deck_ref::DeckRef;
 use crate::part::Part;
 use crate::pattern::is_wanted;
 use crate::start::Start;
-use deck9::{Change, Forgotten, Mode, ModeSet, Register, Status};
+use deck9::{Change, DeckRef, Forgotten, Mode, ModeSet, Register, Status};
 use sets25::{SpanSet, TimeSet};
 use std::alloc::{AllocError, Global};
 use std::marker::Model;

@@ -5,7 +5,6 @@
 #![tactic(auto)]
 
 mod at_25;
-mod deck_ref;
 mod entries;
 mod following;
 mod halves;

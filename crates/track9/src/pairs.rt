@@ -10,9 +10,8 @@ ghost use Rattle.track9.specs.Working.Parts.{gone_pairs, kept_or_gone};
 ghost use Rattle.track9.specs.Working.Pairs.{all_pairs, drifted, drifted_with, all_shown, gone, gone_with, goal_if_shown, goals_of, halted, joined, kept_goal, masked, no_pairs, pairs_of, shown_if, some_pair};
 ghost use Rattle.deck9.specs.declared.mode.Mode.{Mode as AMode};
 
-use crate::deck_ref::DeckRef;
 use crate::start::known_modes;
-use deck9::{Mode, ModeSet};
+use deck9::{DeckRef, Mode, ModeSet};
 
 /// The modes that may be shown with each goal, in the order of the modes.
 #[derive(Clone, Copy, Debug, PartialEq, Eq)]

@@ -11,13 +11,12 @@ ghost use Rattle.track9.specs.Working.Touched.{touched_part};
 ghost use Rattle.deck9.specs.declared.state.Register.{Register as ARegister};
 ghost use Rattle.tc25.specs.declared.rate.Rate.{Rate as ARate};
 
-use crate::deck_ref::DeckRef;
 use crate::entries::Entries;
 use crate::kept::Kept;
 use crate::pairs::Pairs;
 use crate::pattern::is_wanted;
 use crate::start::{Start, known_modes};
-use deck9::{Change, KnownEntry, Mode, ModeSet, Register, RegistersSet, Status};
+use deck9::{Change, DeckRef, KnownEntry, Mode, ModeSet, Register, RegistersSet, Status};
 use sets25::{SpanSet, TimeSet};
 use std::alloc::{AllocError, Global};
 use std::marker::Model;

@@ -11,12 +11,11 @@ ghost use Rattle.track9.specs.Tracker.{entries_of};
 ghost use Rattle.track9.specs.Working.Starts.{states_from};
 ghost use Rattle.track9.specs.Working.States.{AreBelow, AreWhole, Follows, FollowsDrift, Taken, after_panel, all_drifted, all_or_none, effect_taken, either_panel, first_states, hands_of, is_frugal_taken, remains_with_panel_on, is_wide, panel_passed, part_of, profile_of, rate_for, states_remain};
 
-use crate::deck_ref::DeckRef;
 use crate::halves::Halves;
 use crate::start::Start;
 use block9::{Block, Command};
 use boxed::{all_boxed, copy_boxed};
-use deck9::{Effect, Forgotten, Hands, Register};
+use deck9::{DeckRef, Effect, Forgotten, Hands, Register};
 use sets25::{SpanSet, TimeSet};
 use std::alloc::{AllocError, Global};
 use std::marker::Model;

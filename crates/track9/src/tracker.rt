@@ -16,13 +16,12 @@ ghost use Rattle.deck9.specs.declared.mode.Mode.{Mode as AMode};
 ghost use Rattle.deck9.specs.declared.state.Register.{Register as ARegister};
 ghost use Rattle.deck9.specs.declared.state.State.{State as AState};
 
-use crate::deck_ref::DeckRef;
 use crate::kept::Kept;
 use crate::presets::Presets;
 use crate::start::Start;
 use crate::states::States;
 use block9::{Block, Command, Exchange};
-use deck9::{Hands, Knowledge, ModeSet, Profile, Register, State};
+use deck9::{DeckRef, Hands, Knowledge, ModeSet, Profile, Register, State};
 use sets25::{SpanSet, TimeSet};
 use std::alloc::{AllocError, Global};
 use std::marker::Model;
@@ -68,12 +67,7 @@ impl<'a, S: TimeSet> Tracker<'a, S> {
         ensures profile { IfOk result (λ t. t.profile ≡ profile.now) }
         ensures presets { IfOk result (λ t. (r : ARegister) → count_of r t.presets ≡ 0) }
     {
-        Tracker::begin(
-            alloc,
-            profile.rate,
-            profile.hands,
-            DeckRef::of(&profile.deck),
-        )
+        Tracker::begin(alloc, profile.rate, profile.hands, profile.deck_ref())
     }
 
     /// The same at this rate, with hands or without, and for this deck, if there is one.
@@ -109,7 +103,7 @@ impl<'a, S: TimeSet> Tracker<'a, S> {
         Ok(Tracker {
             states,
             presets: Presets::none(),
-            deck: DeckRef::of(&profile.deck),
+            deck: profile.deck_ref(),
             alloc,
         })
     }

@@ -5,7 +5,7 @@ use crate::seen::SeenExchange;
 use crate::text::Text;
 use crate::track::{Place, Track, put_track};
 use block9::Command;
-use deck9::{Deck, Effect, Known, Mode, ModeSet, Profile};
+use deck9::{DeckRef, Effect, Known, Mode, ModeSet, Profile};
 use report9::put_modes;
 
 /// Which way the tape runs by a command.
@@ -82,7 +82,7 @@ impl<'a> Transport<'a> {
     pub(crate) fn of(profile: &'a Profile, seen: &SeenExchange<'_>) -> Option<Transport<'a>> {
         let command = &seen.exchange.command;
         let called = Called::of(profile, seen.exchange);
-        let mode = match (Deck::effect(None, command), called) {
+        let mode = match (DeckRef::none().effect(command), called) {
             (Effect::Go(mode), _) => Some(mode),
             (Effect::KeepOr(_), _) => None,
             (_, Called::Head(head)) if head / 0x10_00 == 2 => None,

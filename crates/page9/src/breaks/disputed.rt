@@ -2,8 +2,8 @@
 
 use block9::{Block, Exchange};
 use deck9::{
-    Deck, Effect, Forgotten, Knowledge, Known, KnownEntry, ModeSet, Profile, Register,
-    RegistersSet, Sense,
+    Effect, Forgotten, Knowledge, Known, KnownEntry, ModeSet, Profile, Register, RegistersSet,
+    Sense,
 };
 use picture9::Markup;
 use report9::{WhyNo, status_in};
@@ -117,9 +117,9 @@ impl Disputed {
         if exchange.reply.is_nak() {
             return false;
         }
-        let deck = profile.deck.as_ref();
-        let beside = Deck::forgotten_with(deck, exchange);
-        self.is_changed_by(Deck::effect(deck, &exchange.command)) || self.is_forgotten(beside)
+        let deck = profile.deck_ref();
+        let beside = deck.forgotten_with(exchange);
+        self.is_changed_by(deck.effect(&exchange.command)) || self.is_forgotten(beside)
     }
 
     /// Whether an effect may change one of the fields.

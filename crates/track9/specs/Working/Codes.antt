@@ -1,13 +1,11 @@
 -- How the values are stored that models show: from the codes of the types in them.
-use Rattle.std.specs.Coded.{Coded, codes, coded_ℕ}
+use Rattle.std.specs.Coded.{Coded, coded_ℕ}
 use Rattle.std.specs.FinSet as set
 use Rattle.std.specs.Ordering.{nat_cmp}
-use Rattle.arrayvec.specs.ArrayVec.{array_vec_code}
 use Rattle.sets25.specs.Times.{Times}
-use Rattle.smallvec.specs.SmallVec.{small_vec_code}
-use Rattle.std_collections.specs.Layout.BTreeMap.{btree_map_code}
+use Rattle.deck9.specs.Codes.{deck_codes}
 
 abbrev pub times_code : Coded Times
 times_code = set.code {R = nat_cmp} coded_ℕ
 
-pub ruleset stored = (codes, times_code, btree_map_code, small_vec_code, array_vec_code)
+pub ruleset stored = (deck_codes, times_code)

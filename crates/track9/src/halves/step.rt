@@ -7,10 +7,9 @@ ghost use Rattle.tc25.specs.Day.{time_of};
 ghost use Rattle.track9.specs.Frugal.{is_frugal, is_frugal_effect};
 ghost use Rattle.track9.specs.Working.States.{HasEffect, Taken, HalvesWhole, is_frugal_taken, rate_in, halves_remain, halves_drifted, halves_sensed, halves_status};
 
-use crate::deck_ref::DeckRef;
 use crate::halves::Halves;
 use block9::{Block, Command};
-use deck9::{Effect, Register, Sense, Status};
+use deck9::{DeckRef, Effect, Register, Sense, Status};
 use sets25::TimeSet;
 use std::alloc::{AllocError, Global};
 

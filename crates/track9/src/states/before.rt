@@ -12,13 +12,12 @@ ghost use Rattle.track9.specs.Working.Parts.{HasState};
 ghost use Rattle.track9.specs.Working.States.{AreWhole, InHalves, remains_with_panel_on, halves_of, profile_of, rate_for};
 ghost use Rattle.deck9.specs.declared.state.State.{State as AState};
 
-use crate::deck_ref::DeckRef;
 use crate::halves::Halves;
 use crate::part::Part;
 use crate::pattern::{Pattern, is_wanted};
 use crate::states::States;
 use block9::{Command, Exchange};
-use deck9::{Register, State, may_ignore};
+use deck9::{DeckRef, Register, State, may_ignore};
 use sets25::TimeSet;
 
 impl<S: TimeSet> States<S> {

@@ -23,7 +23,8 @@ returns-else-steps_from_same c =
     let made : c.with_panel-same.result ≡ before_all g c.args.panel t =
     c.with_panel-same.ensures ∙ ap (λ (v : State). record v { panel = c.args.panel }) c.before_forgetting.ensures in
     let valid : IsState p.rate c.with_panel-same.result = subst (IsState p.rate) (sym made) (same_valid p.rate g t c.args.panel c.requires) in
-    let states = two_states p c.args.exchange.now c.args.panel t c.effect.result c.with_panel-same.result c.before_shift-back.result c.effect.ensures
-    (made ∙ ap (λ g. before_all g c.args.panel t) c.forgotten_with-forgotten.ensures) c.before_shift-back.ensures valid
+    let deck = sym c.deck_ref-deck.ensures in
+    let states = two_states p c.args.exchange.now c.args.panel t c.effect.result c.with_panel-same.result c.before_shift-back.result (rw deck c.effect.ensures)
+    (rw deck (made ∙ ap (λ g. before_all g c.args.panel t) c.forgotten_with-forgotten.ensures)) c.before_shift-back.ensures valid
     (subst (IsState p.rate) (sym c.before_shift-back.ensures) (back_valid p.rate c.effect.result c.with_panel-same.result valid)) in
     grind (arith, states)
