@@ -86,12 +86,12 @@ impl Signs {
     }
 
     /// The signs that the records so far show. Where the wires are swapped, no sign is looked for that depends on whose wire is which.
-    pub fn signs(&self) -> [Option<Sign>; 9] {
+    pub fn signs(&self) -> [Option<Sign>; 8] {
         let swapped = self.wires_swapped();
         let told = self.coarse_times();
         let close = self.collects_bytes().filter(|_| told.is_none());
         if swapped.is_some() {
-            return [swapped, close, told, None, None, None, None, None, None];
+            return [swapped, close, told, None, None, None, None, None];
         }
         let (turns, rate) = (&self.turns, self.rate);
         [
@@ -103,7 +103,6 @@ impl Signs {
             self.lost_bytes(),
             turns.delays.sign(),
             turns.fits.sign(),
-            None,
         ]
     }
 

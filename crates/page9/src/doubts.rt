@@ -6,12 +6,12 @@ use info9::{Seeming, Sign};
 /// The signs that a capture shows, as far as they put reasons in doubt.
 #[derive(Clone, Copy)]
 pub(crate) struct Doubts {
-    signs: [Option<Sign>; 9],
+    signs: [Option<Sign>; 8],
 }
 
 impl Doubts {
     /// What these signs put in doubt.
-    pub(crate) fn of(signs: &[Option<Sign>; 9]) -> Doubts {
+    pub(crate) fn of(signs: &[Option<Sign>; 8]) -> Doubts {
         Doubts { signs: *signs }
     }
 

@@ -48,7 +48,7 @@ pub struct Readings<R: Read + Drop> {
 /// What the last reading of a capture finds.
 #[derive(Clone, Copy)]
 struct Found {
-    signs: [Option<Sign>; 9],
+    signs: [Option<Sign>; 8],
     /// The time of the first record, in microseconds; none where there is none.
     first_us: Option<u64>,
     /// That of the last.

@@ -10,7 +10,7 @@ use Rattle.track9.proofs.Words.{drift_from_pairs, drifted, drifted_with, effect_
 use Rattle.track9.proofs.Words.{forgotten_before, forgotten_with, goals_of, halves_of, hands_of, has, has-and, has_pair, head_of, if◌then◌else◌}
 use Rattle.track9.proofs.Words.{ignored, in_local, inl, inr, is_as_wanted, is_mode, is_mode-same, is_nak, is_own, is_some, just_mode, just_state}
 use Rattle.track9.proofs.Words.{masked, mode_just, mode_some, moved_entry, nat_lt, nat_tests, next_frame, no_entries, no_states, on_halves, option_map}
-use Rattle.track9.proofs.Words.{panel_before, panel_switched, pattern_before, prev_frame, profile_of, rate_for, refl, refused, remains_with_panel_on}
+use Rattle.track9.proofs.Words.{panel_before, panel_switched, pattern_before, prev_frame, profile_of, states_rate, refl, refused, remains_with_panel_on}
 use Rattle.track9.proofs.Words.{rules, same_fact, sense_of, shown_with, some_entry, some_mode, some_pair, subst, sym, true, true_from_ne_false}
 use Rattle.track9.proofs.Words.{wanted_before, wanted_of, way, way_of, with_entry, with_wanted, ◌<◌, ◌||◌, ◌↔◌, ◌∙◌, ◌≡◌, ◌⊎◌}
 use Rattle.deck9.specs.declared.deck.Forgotten.TheVariants as forgotten
@@ -186,9 +186,10 @@ wanted_exactly p (effect.KeepOr goals) a d wanted valid = cond_both (is_some (bo
     ))
     (λ none. (
       λ f. (d, valid, f, inl refl),
-      λ (t, day, f, does). elim does
-          [ inl same ↦ subst (Fits a) same f
-          | inr (goes, same) ↦ absurd (false≢true (sym none ∙ mode_some (both goals a.goals) t.goal (has-and goals.0 a.goals.0 t.goal ∙ and_from _ _ goes f.goal))) ],
+      λ (t, day, f, does). elim does [
+        | inl same ↦ subst (Fits a) same f
+        | inr (goes, same) ↦ absurd (false≢true (sym none ∙ mode_some (both goals a.goals) t.goal (has-and goals.0 a.goals.0 t.goal ∙ and_from _ _ goes f.goal)))
+      ],
     ))
 wanted_exactly p (effect.Change r c) a d (w, there, fits) valid = change_exactly p r c a d (wanted_before p.rate c (wanted_of r a)) valid
     (makes_exactly p.rate c (wanted_of r a) (entry_of r d) (valid r) (entry_of r w, there r, entry_wanted r a w fits))
@@ -294,7 +295,7 @@ no_entry_runs deck r p a l pn none (s, there, (d, kept, reaches, fits)) =
 -- ---- a set of states
 
 -- where there is a state with the panel on hands are allowed
-pub panel_hands : (v : States) (s : State) → InPart (in_local (on_halves (rate_for v) v.on) s.local) s → hands_of v ≡ hands.Allowed
+pub panel_hands : (v : States) (s : State) → InPart (in_local (on_halves (states_rate v) v.on) s.local) s → hands_of v ≡ hands.Allowed
 panel_hands v s i = grind arith
 
 -- a hand makes any state with the panel on
@@ -333,24 +334,26 @@ LeadsSome p o s = (d : State) × Drift p s d × FitsSome o d
 comes_exactly : (p : Profile) (c : Command) (a : Pattern) (s : State) → IsPattern p.rate a → IsState p.rate s
     → ComesTo p c a s ↔ ((IsIgnored c a × LeadsTo p (record a { local = Some true }) s) ⊎ LeadsSome p (pattern_before p.rate p.hands (effect_of p.deck c) a) s)
 comes_exactly p c a s wanted valid = (
-  λ (d, t, drift, day, does, f). elim does
-      [ inl does ↦ inr (d, drift, (wanted_exactly p (effect_of p.deck c) a d wanted (drift_state p s d valid drift)).1 (t, day, f, does))
-      | inr (may, local, same) ↦ let fits = subst (Fits a) same f in inl ((may, subst (Is a.local) local fits.local), (d, drift, grind arith)) ],
-  λ w. elim w
-      [ inl ((may, is), (d, drift, f)) ↦ (d, d, drift, drift_state p s d valid drift, inr (may, f.local, refl), grind arith)
-      | inr (d, drift, f) ↦ let (t, day, fits, does) = (wanted_exactly p (effect_of p.deck c) a d wanted (drift_state p s d valid drift)).0 f in
-          (d, t, drift, day, inl does, fits) ],
+  λ (d, t, drift, day, does, f). elim does [
+    | inl does ↦ inr (d, drift, (wanted_exactly p (effect_of p.deck c) a d wanted (drift_state p s d valid drift)).1 (t, day, f, does))
+    | inr (may, local, same) ↦ let fits = subst (Fits a) same f in inl ((may, subst (Is a.local) local fits.local), (d, drift, grind arith))
+  ],
+  λ w. elim w [
+    | inl ((may, is), (d, drift, f)) ↦ (d, d, drift, drift_state p s d valid drift, inr (may, f.local, refl), grind arith)
+    | inr (d, drift, f) ↦ let (t, day, fits, does) = (wanted_exactly p (effect_of p.deck c) a d wanted (drift_state p s d valid drift)).0 f in
+        (d, t, drift, day, inl does, fits)
+  ],
 )
 
 pub step_exactly : {rate : Rate} {h : Hands} {e : Effect} {o : Option Pattern} (deck : Option Deck) (v : States) (c : Command) (a : Pattern)
-    → AreWhole (rate_for v) v → AreBelow v → IsPattern (rate_for v) a
-    → rate ≡ rate_for v → h ≡ hands_of v → e ≡ effect_of deck c → o ≡ pattern_before rate h e a → (s : State) → Possible v s
+    → AreWhole (states_rate v) v → AreBelow v → IsPattern (states_rate v) a
+    → rate ≡ states_rate v → h ≡ hands_of v → e ≡ effect_of deck c → o ≡ pattern_before rate h e a → (s : State) → Possible v s
     → ComesTo (profile_of deck v) c a s ↔ ((IsIgnored c a × LeadsTo (profile_of deck v) (record a { local = Some true }) s) ⊎ LeadsSome (profile_of deck v) o s)
 step_exactly {o = o} deck v c a whole below wanted rate allowed effect is s there =
     subst (λ o. ComesTo (profile_of deck v) c a s ↔ ((IsIgnored c a × LeadsTo (profile_of deck v) (record a { local = Some true }) s) ⊎ LeadsSome (profile_of deck v) o s))
-        found (comes_exactly (profile_of deck v) c a s wanted (possible_state (rate_for v) v s whole below there))
+    found (comes_exactly (profile_of deck v) c a s wanted (possible_state (states_rate v) v s whole below there))
   where
-    found : pattern_before (rate_for v) (hands_of v) (effect_of deck c) a ≡ o
+    found : pattern_before (states_rate v) (hands_of v) (effect_of deck c) a ≡ o
     found = rw (← rate, ← allowed, ← effect) (sym is)
 
 -- the states from which forgetting leads to this one
@@ -378,10 +381,11 @@ forgets_shows p e u t forgets =
 pub nak_exactly : (p : Profile) (e : Exchange) (s t : State) → is_nak e.reply ≡ true → LeadsTo p (just_state t) s ↔ Goes p e s t
 nak_exactly p e s t nak = (
   λ (d, drift, fits). (t, (d, drift, refused nak (fits_just t d fits)), rw none refl),
-  λ (u, (d, drift, step), forgets). let same : t ≡ u = rw none at forgets in elim step
-      [ refused was e ↦ (d, drift, subst (λ t. Fits (just_state t) d) (sym (same ∙ e)) (fits_self d))
-      | done was shows does ↦ absurd (false≢true (sym was ∙ nak))
-      | ignored was shows may local e ↦ absurd (false≢true (sym was ∙ nak)) ],
+  λ (u, (d, drift, step), forgets). let same : t ≡ u = rw none at forgets in elim step [
+    | refused was e ↦ (d, drift, subst (λ t. Fits (just_state t) d) (sym (same ∙ e)) (fits_self d))
+    | done was shows does ↦ absurd (false≢true (sym was ∙ nak))
+    | ignored was shows may local e ↦ absurd (false≢true (sym was ∙ nak))
+  ],
 )
   where
     none : forgotten_with p.deck e ≡ forgotten.Nothing
@@ -412,7 +416,15 @@ goes_exactly p e s t nak was is = (λ (u, (d, drift, step), forgets). there u d 
     back : Shows p.rate t e.command e.reply → (d u : State) → Drift p s d → IsState p.rate u → DoesOrIgnores p e.command d u
         → Fits (forgotten_before p.hands g (just_state t)) u → Goes p e s t
     back shows d u drift day does fits =
-        let forgets = (between_exactly p g u t day is).0 fits in let shown = (forgets_shows p e u t forgets).1 shows in
-        (u, (d, drift, elim does
-            [ inl does ↦ done nak ((shows_same p.deck p e.command e.reply d u does).1 shown) does
-            | inr (may, local, same) ↦ ignored nak (rw (← same) shown) may local same ]), forgets)
+        let forgets = (between_exactly p g u t day is).0 fits in let shown = (forgets_shows p e u t forgets).1 shows in (
+          u,
+          (
+            d,
+            drift,
+            elim does [
+              | inl does ↦ done nak ((shows_same p.deck p e.command e.reply d u does).1 shown) does
+              | inr (may, local, same) ↦ ignored nak (rw (← same) shown) may local same
+            ],
+          ),
+          forgets,
+        )

@@ -10,7 +10,7 @@ use Rattle.track9.proofs.Words.{no_states, None, Option, or-true, or_cases, Part
 use Rattle.track9.proofs.Words.{refl, refused, RegAudioIn, RegAudioOut, RegIn, Register, RegistersSet, RegOut, reported_part, Sense, sense_of, sensed_part, shown_by, is_own, set_where, settled}
 use Rattle.track9.proofs.Words.{shown_with, ShowsStatus, Some, some_entry, some_mode, some_pair, halves_remain, State, Status, status_of, status_part, DeckStep, subst, sym, Taken, Tells, time_of, true}
 use Rattle.track9.proofs.Words.{halves_changed, halves_drifted, halves_gone, halves_kept_or_gone, halves_sensed, halves_status, HalvesBelow, HalvesFew, Halves, HalvesWhole, where_remains, Whole, with_command, with_entries, with_entry}
-use Rattle.track9.proofs.Words.{Rate, rate_in, rate_of, untouched, with_pairs, ℕ, ◌&&◌, ◌||◌, ◌↔◌, ◌∙◌, ◌≡◌, ◌⊎◌}
+use Rattle.track9.proofs.Words.{Rate, halves_rate, part_rate, untouched, with_pairs, ℕ, ◌&&◌, ◌||◌, ◌↔◌, ◌∙◌, ◌≡◌, ◌⊎◌}
 use Rattle.deck9.specs.declared.effect.Effect.TheVariants as effect
 use Rattle.deck9.specs.declared.sense.Sense.TheVariants as sense
 use Rattle.deck9.proofs.EffectLemmas.{does_valid}
@@ -19,7 +19,7 @@ use Rattle.track9.proofs.EntryLemmas.{set_exactly, some_allowed, tells_exactly}
 use Rattle.track9.proofs.PartLemmas.{a_state, all_exactly, any_entries, Below, drift_below, drift_some, drift_whole, each_register, few_agreeing, few_all_states}
 use Rattle.track9.proofs.PartLemmas.{few_changed_part, few_counted, few_no_states, few_pairs, few_put, few_set, few_settled, few_halves, FewIn, in_none, in_pairs, mechanics}
 use Rattle.track9.proofs.PartLemmas.{not_live, pairs_registers, put, put_in, read_put, settled_exactly, take_out, halves_live, halves_state, whole_all, whole_drift, whole_in}
-use Rattle.track9.proofs.PartLemmas.{all_drifted_pairs, drifted_all, each_put, of_rate, OfRate, PartBelow, halves_rate, whole_none, whole_pairs, whole_put, whole_settled, whole_halves}
+use Rattle.track9.proofs.PartLemmas.{all_drifted_pairs, drifted_all, each_put, of_rate, OfRate, PartBelow, whole_rate, whole_none, whole_pairs, whole_put, whole_settled, whole_halves}
 use Rattle.std.proofs.Common.{arith}
 
 -- ---- part by part
@@ -325,7 +325,7 @@ drift_put deck r f p = grind arith
 
 drift_settled : (deck : Option Deck) (p : Part) → drifted_part deck (settled p) ≡ settled (drifted_part deck p)
 drift_settled deck p = rw (drift_some deck p.pairs) (elim (part_remains p && some_entry p.ins && some_entry p.outs && some_entry p.ains && some_entry p.aouts)
-    as (λ b. drifted_part deck (if b then p else no_states (rate_of p)) ≡ (if b then drifted_part deck p else no_states (rate_of p))) [ true ↦ refl | false ↦ refl ])
+    as (λ b. drifted_part deck (if b then p else no_states (part_rate p)) ≡ (if b then drifted_part deck p else no_states (part_rate p))) [ true ↦ refl | false ↦ refl ])
 
 drift_kept : (deck : Option Deck) (l : Bool) (p : Part) → drifted_part deck (kept_if l p) ≡ kept_if l (drifted_part deck p)
 drift_kept deck l p = grind (arith, drift_settled)
@@ -412,7 +412,7 @@ tape_exactly p s t = (
 
 forget_all : (deck : Option Deck) (rate : Rate) (h : Halves) → HalvesWhole rate h → LeadsOn rate (Forgets (untouched deck rate) Everything) (λ n. n) h (all_forgotten h)
 forget_all deck rate h whole = subst (λ other. LeadsOn rate (Forgets (untouched deck rate) Everything) (λ n. n) h (if halves_remain h then all_or_none other true else h))
-    (sym (halves_rate rate h whole)) (record {
+    (sym (whole_rate rate h whole)) (record {
       reached = λ pn. (
         λ t i. cond_both (halves_remain h) (all_or_none rate true) h (λ g. InHalves pn g t → (s : State) × InHalves pn h s × Forgets (untouched deck rate) Everything s t)
             (λ live i. let w = halves_state rate h pn whole live in (w.0, w.1, (((all_exactly rate true t).0 i.1).1, i.0 ∙ sym w.1.0)))
@@ -440,13 +440,13 @@ drift_forgotten deck Motion h = drift_halves deck (λ l. with_pairs all_pairs) h
 drift_forgotten deck Registers h = drift_halves deck (λ l. forgotten_part) h (λ l p. refl)
 drift_forgotten deck Tape h = drift_halves deck (λ l. with_pairs all_pairs) (registers_forgotten h) (λ l p. rw (all_drifted_pairs deck) refl)
     ∙ ap motion_forgotten (drift_halves deck (λ l. forgotten_part) h (λ l p. refl))
-drift_forgotten deck Everything h = by (halves_remain h) ∙ ap (λ (b : Bool). if b then all_or_none (rate_in h) true else halves_drifted deck h) (sym same)
+drift_forgotten deck Everything h = by (halves_remain h) ∙ ap (λ (b : Bool). if b then all_or_none (halves_rate h) true else halves_drifted deck h) (sym same)
   where
     same : halves_remain (halves_drifted deck h) ≡ halves_remain h
     same = ap (λ b. b || part_remains (drifted_part deck h.local)) (drift_some deck h.remote.pairs) ∙ ap (λ b. part_remains h.remote || b) (drift_some deck h.local.pairs)
 
-    by : (b : Bool) → halves_drifted deck (if b then all_or_none (rate_in h) true else h) ≡ (if b then all_or_none (rate_in h) true else halves_drifted deck h)
-    by true = drifted_all deck (rate_in h) true
+    by : (b : Bool) → halves_drifted deck (if b then all_or_none (halves_rate h) true else h) ≡ (if b then all_or_none (halves_rate h) true else halves_drifted deck h)
+    by true = drifted_all deck (halves_rate h) true
     by false = refl
 
 pub after_forgotten : (deck : Option Deck) (rate : Rate) (may_stay : Bool) (g : Forgotten) (h : Halves) → HalvesWhole rate h
@@ -513,9 +513,9 @@ set_exactly_where (Some set) p t = (
 -- exactly the states with which a status agrees
 status_exactly : (status : Status) (p : Part) (t : State) → InPart (status_part t.local status p) t ↔ (InPart p t × ShowsStatus t status)
 status_exactly status p t = let q = masked_part status.shown p in (
-  λ i. cond_both (is_as_wanted status.local t.local) (reported_part status p) (no_states (rate_of p)) (λ q. InPart q t → InPart p t × ShowsStatus t status) (λ here i.
+  λ i. cond_both (is_as_wanted status.local t.local) (reported_part status p) (no_states (part_rate p)) (λ q. InPart q t → InPart p t × ShowsStatus t status) (λ here i.
       let a = (set_exactly_where status.registers q t).0 ((settled_exactly (set_where status.registers q) t).0 i) in let b = (masked_exactly status.shown p t).0 a.0 in
-      (b.0, record { local = (local_exactly status.local t.local).0 here; shown = b.1; registers = a.1 })) (λ e i. in_none (rate_of p) t i) i,
+      (b.0, record { local = (local_exactly status.local t.local).0 here; shown = b.1; registers = a.1 })) (λ e i. in_none (part_rate p) t i) i,
   λ (i, h). rw ((local_exactly status.local t.local).1 h.local)
       ((settled_exactly (set_where status.registers q) t).1 ((set_exactly_where status.registers q t).1
       ((masked_exactly status.shown p t).1 (i, h.shown), h.registers))),
@@ -541,12 +541,12 @@ few_where n (Some set) p few = each_register _ (few_set n.ins set.ins p.ins (few
 
 reads_status : (rate : Rate) (status : Status) (h : Halves) → HalvesWhole rate h → LeadsOn rate (λ s t. ShowsStatus s status × (t ≡ s)) (λ n. n) h (halves_status status h)
 reads_status rate status h whole = reads rate (λ s. ShowsStatus s status) (λ l. status_part l status) h whole (λ p t same. status_exactly status p t)
-    (λ l p same. cond_both (is_as_wanted status.local l) (reported_part status p) (no_states (rate_of p)) (Whole rate)
+    (λ l p same. cond_both (is_as_wanted status.local l) (reported_part status p) (no_states (part_rate p)) (Whole rate)
     (λ e. whole_settled rate (set_where status.registers (masked_part status.shown p)) (reported_rate rate status p same))
     (λ e. subst (λ other. Whole rate (no_states other)) (sym (same RegIn)) (whole_none rate)))
-    (λ l n p few. cond_both (is_as_wanted status.local l) (reported_part status p) (no_states (rate_of p)) (FewIn n)
+    (λ l n p few. cond_both (is_as_wanted status.local l) (reported_part status p) (no_states (part_rate p)) (FewIn n)
     (λ e. few_settled n (set_where status.registers (masked_part status.shown p))
-    (few_where n status.registers (masked_part status.shown p) (few_masked n status.shown p few))) (λ e. few_no_states (rate_of p) n))
+    (few_where n status.registers (masked_part status.shown p) (few_masked n status.shown p few))) (λ e. few_no_states (part_rate p) n))
 
 -- ---- complete exchanges
 

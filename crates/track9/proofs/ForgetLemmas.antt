@@ -2,7 +2,7 @@
 use Rattle.track9.proofs.Words.{AllLeadOn, AreForgotten, AreReached, AreTracked, AreWhole, Bool, Deck, Everything, Exchange, Exchanges, Forgets}
 use Rattle.track9.proofs.Words.{Forgotten, Goes, Halves, HalvesWhole, Hands, InHalves, IsState, LeadsOn, Nothing, Option, Passes, Presets, Profile}
 use Rattle.track9.proofs.Words.{Rate, Some, State, States, ap, false, first_states, forgotten_beside, forgotten_with, halves_forgotten, halves_of}
-use Rattle.track9.proofs.Words.{hands_of, head_of, if◌then◌else◌, profile_of, rate_for, rate_in, refl, states_remain, subst, sym, true, untouched, ◌↔◌}
+use Rattle.track9.proofs.Words.{hands_of, head_of, if◌then◌else◌, profile_of, states_rate, halves_rate, refl, states_remain, subst, sym, true, untouched, ◌↔◌}
 use Rattle.track9.proofs.Words.{◌≡◌, ◌≢◌, ◌⊎◌}
 use Rattle.deck9.specs.Contradict.{MayGo}
 use Rattle.deck9.specs.declared.effect.Effect.TheVariants as effect
@@ -11,7 +11,7 @@ use Rattle.track9.proofs.EffectLemmas.{halves_forget}
 use Rattle.deck9.proofs.EffectLemmas.{forgets_none}
 use Rattle.track9.proofs.KnownLemmas.{whole_at_rate}
 use Rattle.track9.proofs.PanelLemmas.{deck_of, leads_forgotten, leads_off, panel_off, touched}
-use Rattle.track9.proofs.PartLemmas.{both_few, by_panel, halves_rate}
+use Rattle.track9.proofs.PartLemmas.{both_few, by_panel, whole_rate}
 use Rattle.std.proofs.Common.{arith}
 
 -- ---- with both
@@ -19,30 +19,30 @@ use Rattle.std.proofs.Common.{arith}
 keeps_panel : (deck : Option Deck) (rate : Rate) (g : Forgotten) (s t : State) → Forgets (untouched deck rate) g s t → t.panel ≡ s.panel
 keeps_panel deck rate g s t forgets = grind arith
 
-pub forget_off : (g : Forgotten) (h : Halves) → HalvesWhole (rate_in h) h → AreForgotten g (panel_off h) (panel_off (halves_forgotten g h))
-forget_off g h whole deck = leads_off deck (rate_in h) (λ p. Forgets p g) (λ n. n) (keeps_panel deck (rate_in h) g) h (halves_forgotten g h) (halves_forget deck (rate_in h) g h whole)
+pub forget_off : (g : Forgotten) (h : Halves) → HalvesWhole (halves_rate h) h → AreForgotten g (panel_off h) (panel_off (halves_forgotten g h))
+forget_off g h whole deck = leads_off deck (halves_rate h) (λ p. Forgets p g) (λ n. n) (keeps_panel deck (halves_rate h) g) h (halves_forgotten g h) (halves_forget deck (halves_rate h) g h whole)
 
 -- but for everything it is the same with hands and without
 narrow : (deck : Option Deck) (rate : Rate) (g : Forgotten) (h k : Hands) (s t : State) → g ≢ Everything → Forgets (deck_of deck rate h) g s t → Forgets (deck_of deck rate k) g s t
 narrow deck rate g h k s t but forgets = grind arith
 
-by_hand : (g : Forgotten) (v w : States) (deck : Option Deck) → hands_of v ≡ hands.Allowed → AllLeadOn (touched deck (rate_for v)) (Forgets (touched deck (rate_for v)) g) (λ n. n) v w
+by_hand : (g : Forgotten) (v w : States) (deck : Option Deck) → hands_of v ≡ hands.Allowed → AllLeadOn (touched deck (states_rate v)) (Forgets (touched deck (states_rate v)) g) (λ n. n) v w
     → AllLeadOn (profile_of deck v) (Forgets (profile_of deck v) g) (λ n. n) v w
-by_hand g v w deck allowed = subst (λ h. AllLeadOn (deck_of deck (rate_for v) h) (Forgets (deck_of deck (rate_for v) h) g) (λ n. n) v w) (sym allowed)
+by_hand g v w deck allowed = subst (λ h. AllLeadOn (deck_of deck (states_rate v) h) (Forgets (deck_of deck (states_rate v) h) g) (λ n. n) v w) (sym allowed)
 
 abbrev pub both_forgotten : Forgotten → States → States
 both_forgotten g v = record { off = halves_forgotten g v.off; on = Some (halves_forgotten g (halves_of v true)) }
 
-pub forget_both : (g : Forgotten) (v : States) → g ≢ Everything → hands_of v ≡ hands.Allowed → AreWhole (rate_for v) v → AreForgotten g v (both_forgotten g v)
+pub forget_both : (g : Forgotten) (v : States) → g ≢ Everything → hands_of v ≡ hands.Allowed → AreWhole (states_rate v) v → AreForgotten g v (both_forgotten g v)
 forget_both g v but allowed whole deck = by_hand g v (both_forgotten g v) deck allowed (record {
   reached = by_panel (Forgets (touched deck rate) g) keeps v (both_forgotten g v) (led false off) (led true on);
-  profile = ap (touched deck) (halves_rate rate (halves_forgotten g v.off) off.whole);
+  profile = ap (touched deck) (whole_rate rate (halves_forgotten g v.off) off.whole);
   whole = record { off = off.whole; on = on.whole };
   few = λ n few. both_few n (both_forgotten g v) (off.few n (few false)) (on.few n (few true));
 })
   where
     rate : Rate
-    rate = rate_for v
+    rate = states_rate v
 
     off : LeadsOn rate (Forgets (untouched deck rate) g) (λ n. n) v.off (halves_forgotten g v.off)
     off = halves_forget deck rate g v.off whole.off
@@ -59,10 +59,10 @@ forget_both g v but allowed whole deck = by_hand g v (both_forgotten g v) deck a
       λ s t i forgets. (leads.reached pn).1 s t i (narrow deck rate g hands.Allowed hands.None s t but forgets),
     )
 
-pub forget_panel : (v : States) → hands_of v ≡ hands.Allowed → AreWhole (rate_for v) v
-    → AreForgotten Everything v (if states_remain v then first_states (rate_for v) hands.Allowed else v)
+pub forget_panel : (v : States) → hands_of v ≡ hands.Allowed → AreWhole (states_rate v) v
+    → AreForgotten Everything v (if states_remain v then first_states (states_rate v) hands.Allowed else v)
 forget_panel v allowed whole deck = by_hand Everything v _ deck allowed
-    (leads_forgotten deck (Forgets (touched deck (rate_for v)) Everything) (λ n. n) v allowed whole (λ s t valid. (valid, tt)) (λ s t i forgets. forgets.0) (λ n. refl))
+    (leads_forgotten deck (Forgets (touched deck (states_rate v)) Everything) (λ n. n) v allowed whole (λ s t valid. (valid, tt)) (λ s t i forgets. forgets.0) (λ n. refl))
 
 -- ---- a tracker
 

@@ -1,10 +1,10 @@
 -- What is known of modes, of facts and of a register; and what a tracker keeps, remains and counts.
 use Rattle.track9.proofs.Words.{Allows, ap, AreFew, AreTimes, AreWhole, arith, At, begin_count-empty, Block, Bool, Clear, Command, contains-just}
 use Rattle.track9.proofs.Words.{contains-remove_nat, contains-retain_nat, count_of, either, Entries, entries_of, Entry, entry_of, eqb-true, false, false_from_ne_true, false≢true, Follows}
-use Rattle.track9.proofs.Words.{Profile, profile_of, Rate, rate_for, goals_in, goals_of, all_shown, has, has-or, has_pair, in_local, inl, InPart, inr, part_remains, is_nil, remains_with_panel_on}
+use Rattle.track9.proofs.Words.{Profile, profile_of, Rate, states_rate, states_goals, goals_of, all_shown, has, has-or, has_pair, in_local, inl, InPart, inr, part_remains, is_nil, remains_with_panel_on}
 use Rattle.track9.proofs.Words.{is_some, AreTracked, IsKnown, IsKnownEntry, IsSpanCount, IsTrue, join_options, joined, just, Known, known_fact, KnownEntry, KnowsModes}
 use Rattle.track9.proofs.Words.{KnowsOf, List, max, max-zero, Mode, mode_some, ModeSet, nat_cmp, nat_tests, None, on_halves, Option, part_of, PartKnows, Part}
-use Rattle.track9.proofs.Words.{Possible, Presets, presets_after, refl, Register, same_test, same_times, shown_in, shown_with, Some, some_entry, some_mode, states_remain}
+use Rattle.track9.proofs.Words.{Possible, Presets, presets_after, refl, Register, same_test, same_times, states_shown, shown_with, Some, some_entry, some_mode, states_remain}
 use Rattle.track9.proofs.Words.{halves_remain, span_count, span_count-begin_count, State, States, subst, sym, Times, true, halves_of, HalvesKnow, Halves, HalvesWhole}
 use Rattle.track9.proofs.Words.{Whole, with_entry, ℕ, ◌+◌, ◌||◌, ◌↔◌, ◌∙◌, ◌≡◌, ◌≢◌, ◌≤◌, ◌⊎◌}
 use Rattle.std.specs.FinSet as set
@@ -33,11 +33,11 @@ some_part f v m =
     )
 
 -- a pair of a part is one of a state
-pair_state : (v : States) (l pn : Bool) (g m : Mode) → AreWhole (rate_for v) v → has_pair (part_of v l pn).pairs g m ≡ true
+pair_state : (v : States) (l pn : Bool) (g m : Mode) → AreWhole (states_rate v) v → has_pair (part_of v l pn).pairs g m ≡ true
     → (s : State) × Possible v s × (s.goal ≡ g) × (s.shown ≡ m)
 pair_state v l pn g m whole pair =
     let p = part_of v l pn in
-    let w = a_state (rate_for v) p l pn (part_whole (rate_for v) v whole l pn) (mode_some (all_shown p.pairs) m (goes_to p.pairs g m pair)) in
+    let w = a_state (states_rate v) p l pn (part_whole (states_rate v) v whole l pn) (mode_some (all_shown p.pairs) m (goes_to p.pairs g m pair)) in
     let s : State = record w.0 { goal = g; shown = m } in (s, possible v s l pn w.2 w.3 (in_pairs p p.pairs w.0 g m w.1.registers pair), refl, refl)
 
 -- the set has exactly the modes that the states have
@@ -48,7 +48,7 @@ pub record HasModes (X : State → Type 0) (field : State → Mode) (set : ModeS
 -- goals, or shown modes
 has_modes : (pick : Mode → Mode → Mode) (f : List ModeSet → ModeSet) (v : States)
     → ((p : List ModeSet) (n : Mode) → has (f p).0 n ≡ true ↔ ((g m : Mode) × (has_pair p g m ≡ true) × (pick g m ≡ n)))
-    → AreWhole (rate_for v) v → HasModes (Possible v) (λ (s : State). pick s.goal s.shown) (all_of f v)
+    → AreWhole (states_rate v) v → HasModes (Possible v) (λ (s : State). pick s.goal s.shown) (all_of f v)
 has_modes pick f v exactly whole = record {
   there = λ s i. let p = part_of v s.local s.panel in
       (some_part f v _).1 (s.local, s.panel, (exactly p.pairs _).1 (s.goal, s.shown, (impossible v s s.local s.panel refl refl i).pair, refl));
@@ -57,15 +57,15 @@ has_modes pick f v exactly whole = record {
       let w = pair_state v a.0 a.1 p.0 p.1 whole p.2 in (w.0, w.1, rw (w.2, w.3) p.3);
 }
 
-pub has_goals : (v : States) → AreWhole (rate_for v) v → HasModes (Possible v) (λ (s : State). s.goal) (goals_in v)
+pub has_goals : (v : States) → AreWhole (states_rate v) v → HasModes (Possible v) (λ (s : State). s.goal) (states_goals v)
 has_goals v = has_modes (λ g m. g) goals_of v
     (λ p n. (λ h. let m = some_mode (shown_with p n) (sym (goals_has p n) ∙ h) in (n, m.0, m.1, refl), λ (g, m, pair, e). rw (← e) (goal_to p g m pair)))
 
-pub has_shown : (v : States) → AreWhole (rate_for v) v → HasModes (Possible v) (λ (s : State). s.shown) (shown_in v)
+pub has_shown : (v : States) → AreWhole (states_rate v) v → HasModes (Possible v) (λ (s : State). s.shown) (states_shown v)
 has_shown v = has_modes (λ g m. m) all_shown v (λ p n. (λ h. let g = goes_from p n h in (g.0, n, g.1, refl), λ (g, m, pair, e). rw (← e) (goes_to p g m pair)))
 
-pub modes_some : (v : States) (field : State → Mode) (set : ModeSet) → HasModes (Possible v) field set → AreWhole (rate_for v) v → states_remain v ≡ true → is_some set ≡ true
-modes_some v field set h whole live = let w = live_some (rate_for v) v whole live in mode_some set (field w.0) (h.there w.0 w.1)
+pub modes_some : (v : States) (field : State → Mode) (set : ModeSet) → HasModes (Possible v) field set → AreWhole (states_rate v) v → states_remain v ≡ true → is_some set ≡ true
+modes_some v field set h whole live = let w = live_some (states_rate v) v whole live in mode_some set (field w.0) (h.there w.0 w.1)
 
 -- what is known of a mode of all states, by the set of these modes
 pub modes_known : (X : State → Type 0) (field : State → Mode) (set : ModeSet) (k : Known Mode) → HasModes X field set → KnowsModes set k → IsKnown X field k
@@ -83,21 +83,21 @@ fact_known X field is_there there back some = grind arith
 live_part : (v : States) (s : State) → Possible v s → part_remains (part_of v s.local s.panel) ≡ true
 live_part v s i = state_live (part_of v s.local s.panel) s (impossible v s s.local s.panel refl refl i)
 
-live_state : (v : States) (l pn : Bool) → AreWhole (rate_for v) v → part_remains (part_of v l pn) ≡ true → (s : State) × Possible v s × (s.local ≡ l) × (s.panel ≡ pn)
-live_state v l pn whole live = let w = a_state (rate_for v) (part_of v l pn) l pn (part_whole (rate_for v) v whole l pn) live in (w.0, possible v w.0 l pn w.2 w.3 w.1, w.2, w.3)
+live_state : (v : States) (l pn : Bool) → AreWhole (states_rate v) v → part_remains (part_of v l pn) ≡ true → (s : State) × Possible v s × (s.local ≡ l) × (s.panel ≡ pn)
+live_state v l pn whole live = let w = a_state (states_rate v) (part_of v l pn) l pn (part_whole (states_rate v) v whole l pn) live in (w.0, possible v w.0 l pn w.2 w.3 w.1, w.2, w.3)
 
-pub local_known : (v : States) → AreWhole (rate_for v) v → states_remain v ≡ true
+pub local_known : (v : States) → AreWhole (states_rate v) v → states_remain v ≡ true
     → IsKnown (Possible v) (λ (s : State). s.local) (known_fact (part_remains (part_of v false false) || part_remains (part_of v false true))
     (part_remains (part_of v true false) || part_remains (part_of v true true)))
 local_known v whole live = fact_known (Possible v) (λ (s : State). s.local) (λ l. part_remains (part_of v l false) || part_remains (part_of v l true))
     (λ s i. any_way (λ pn. part_remains (part_of v s.local pn)) s.panel (live_part v s i))
-    (λ l h. let pn = some_way (λ pn. part_remains (part_of v l pn)) h in let w = live_state v l pn.0 whole pn.1 in (w.0, w.1, w.2)) (live_some (rate_for v) v whole live)
+    (λ l h. let pn = some_way (λ pn. part_remains (part_of v l pn)) h in let w = live_state v l pn.0 whole pn.1 in (w.0, w.1, w.2)) (live_some (states_rate v) v whole live)
 
-pub panel_known : (v : States) → AreWhole (rate_for v) v → states_remain v ≡ true
+pub panel_known : (v : States) → AreWhole (states_rate v) v → states_remain v ≡ true
     → IsKnown (Possible v) (λ (s : State). s.panel) (known_fact (halves_remain v.off) (remains_with_panel_on v))
 panel_known v whole live = fact_known (Possible v) (λ (s : State). s.panel) (λ pn. halves_remain (halves_of v pn))
     (λ s i. any_way (λ l. part_remains (part_of v l s.panel)) s.local (live_part v s i))
-    (λ pn h. let l = some_way (λ l. part_remains (part_of v l pn)) h in let w = live_state v l.0 pn whole l.1 in (w.0, w.1, w.3)) (live_some (rate_for v) v whole live)
+    (λ pn h. let l = some_way (λ l. part_remains (part_of v l pn)) h in let w = live_state v l.0 pn whole l.1 in (w.0, w.1, w.3)) (live_some (states_rate v) v whole live)
 
 -- ---- one set of entries
 
@@ -165,12 +165,12 @@ halves_know rate h r o whole (a, b, remote, local, e) =
     (part_knows rate h.local r b whole.local local))
 
 -- an entry of a part is one of a state
-pub part_of_entry : (v : States) (r : Register) (l pn : Bool) (e : Entry) → AreWhole (rate_for v) v → Allows (entries_of r (part_of v l pn)) e
+pub part_of_entry : (v : States) (r : Register) (l pn : Bool) (e : Entry) → AreWhole (states_rate v) v → Allows (entries_of r (part_of v l pn)) e
     → (s : State) × Possible v s × (s.local ≡ l) × (s.panel ≡ pn) × (entry_of r s ≡ e)
 part_of_entry v r l pn e all a =
     let p = part_of v l pn in
-    let whole = part_whole (rate_for v) v all l pn in
-    let w = a_state (rate_for v) p l pn whole (sym (whole r).0 ∙ allowed_some (entries_of r p) e a) in
+    let whole = part_whole (states_rate v) v all l pn in
+    let w = a_state (states_rate v) p l pn whole (sym (whole r).0 ∙ allowed_some (entries_of r p) e a) in
     let at = put r e w.0 in
     let inside : InPart p (with_entry r e w.0) = subst (λ q. InPart q (with_entry r e w.0)) (put_same r p) (put_in r (entries_of r p) p e w.0 w.1 a) in
     (with_entry r e w.0, possible v (with_entry r e w.0) l pn (at.local ∙ w.2) (at.panel ∙ w.3) inside, at.local ∙ w.2, at.panel ∙ w.3, at.entry)
@@ -180,7 +180,7 @@ known_of : (X : State → Type 0) (r : Register) (E : Entry → Type 0) (k : Kno
     → ((e : Entry) → E e → (s : State) × X s × (entry_of r s ≡ e)) → KnowsOf E k → IsKnownEntry X r k
 known_of X r E k there back h = grind arith
 
-pub entry_known : (v : States) (r : Register) (off on all : Option KnownEntry) (k : KnownEntry) → AreWhole (rate_for v) v → HalvesKnow (halves_of v false) r off
+pub entry_known : (v : States) (r : Register) (off on all : Option KnownEntry) (k : KnownEntry) → AreWhole (states_rate v) v → HalvesKnow (halves_of v false) r off
     → HalvesKnow (halves_of v true) r on → all ≡ join_options off on → all ≡ Some k
     → IsKnownEntry (Possible v) r k
 unfolding Knows
@@ -188,20 +188,20 @@ entry_known v r off on all k whole h i joined found =
     let E : Bool → Entry → Type 0 = λ pn. InEither (halves_of v pn) r in
     known_of (Possible v) r (Either E) k (λ s i. (s.panel, (s.local, (impossible v s s.local s.panel refl refl i).registers r)))
     (λ e (pn, (l, a)). let w = part_of_entry v r l pn e whole a in (w.0, w.1, w.4))
-    (subst (Knows (Either E)) (sym joined ∙ found) (knows_either E off on (halves_know (rate_for v) v.off r off whole.off h) (halves_know (rate_for v) (on_halves (rate_for v) v.on) r on whole.on i))).1
+    (subst (Knows (Either E)) (sym joined ∙ found) (knows_either E off on (halves_know (states_rate v) v.off r off whole.off h) (halves_know (states_rate v) (on_halves (states_rate v) v.on) r on whole.on i))).1
 
 -- ---- whether a state remains
 
-pub remains_where : (v : States) → AreWhole (rate_for v) v → IsTrue (states_remain v) ↔ ((s : State) × Possible v s)
-remains_where v whole = (λ h. live_some (rate_for v) v whole h, λ w. some_live v w.0 w.1)
+pub remains_where : (v : States) → AreWhole (states_rate v) v → IsTrue (states_remain v) ↔ ((s : State) × Possible v s)
+remains_where v whole = (λ h. live_some (states_rate v) v whole h, λ w. some_live v w.0 w.1)
 
 -- ---- after an exchange
 
-dead_few : (n : Presets) (v : States) → AreWhole (rate_for v) v → states_remain v ≡ false → AreFew n v
+dead_few : (n : Presets) (v : States) → AreWhole (states_rate v) v → states_remain v ≡ false → AreFew n v
 dead_few n v whole dead pn l r = let none = nil_empty (entries_of r (part_of v l pn)).times in
-    grind (arith, none, part_whole (rate_for v) v whole l pn r, begin_count-empty (entries_of r (part_of v l pn)).rate, live_state v l pn whole, some_live v, dead)
+    grind (arith, none, part_whole (states_rate v) v whole l pn r, begin_count-empty (entries_of r (part_of v l pn)).rate, live_state v l pn whole, some_live v, dead)
 
-pub whole_at_rate : (p : Profile) (w : States) → profile_of p.deck w ≡ p → AreWhole p.rate w → AreWhole (rate_for w) w
+pub whole_at_rate : (p : Profile) (w : States) → profile_of p.deck w ≡ p → AreWhole p.rate w → AreWhole (states_rate w) w
 whole_at_rate p w same whole = subst (λ rate. AreWhole rate w) (sym (ap (λ (p : Profile). p.rate) same)) whole
 
 pub tracked_after : (c : Command) (reply : Block) (v w : States) (p : Profile) (n : Presets) → AreTracked n v → Follows p c (Some reply) v w
@@ -217,7 +217,7 @@ abbrev pub most_spans : States → Register → ℕ
 most_spans v r = max (max (spans_in v r false false) (spans_in v r true false)) (max (spans_in v r false true) (spans_in v r true true))
 
 -- the times of a register in a part are those of its states
-are_times : (v : States) (r : Register) (l pn : Bool) → AreWhole (rate_for v) v → AreTimes (Possible v) r l pn (entries_of r (part_of v l pn)).times
+are_times : (v : States) (r : Register) (l pn : Bool) → AreWhole (states_rate v) v → AreTimes (Possible v) r l pn (entries_of r (part_of v l pn)).times
 are_times v r l pn whole t = grind (arith, part_of_entry, impossible)
 
 -- the greatest of four
@@ -225,7 +225,7 @@ is_one : (f : Bool → Bool → ℕ) (n : ℕ) → n ≡ max (max (f false false
 is_one f n e = let w : ((f false false ≡ n) ⊎ (f true false ≡ n)) ⊎ ((f false true ≡ n) ⊎ (f true true ≡ n)) = grind arith in
     elim w [ inl (inl p) ↦ (false, false, p) | inl (inr p) ↦ (true, false, p) | inr (inl p) ↦ (false, true, p) | inr (inr p) ↦ (true, true, p) ]
 
-pub span_count_is : (v : States) (r : Register) (n : ℕ) → AreWhole (rate_for v) v → n ≡ most_spans v r → IsSpanCount (Possible v) r n
+pub span_count_is : (v : States) (r : Register) (n : ℕ) → AreWhole (states_rate v) v → n ≡ most_spans v r → IsSpanCount (Possible v) r n
 span_count_is v r n whole e = record {
   most = λ l pn times h. subst (λ s. span_count s ≤ n) (let here = are_times v r l pn whole in
       same_times _ times (λ t. same_test _ _ (λ x. (h t).1 ((here t).0 x)) (λ x. (here t).1 ((h t).0 x)))) (grind arith);

@@ -6,13 +6,13 @@ use Rattle.track9.proofs.Words.{false, false≢true, first_states, Follows, Foll
 use Rattle.track9.proofs.Words.{in_local, inl, InPart, inr, InHalves, is_nak, remains_with_panel_on, is_wide, IsIn, AreTracked, IsState}
 use Rattle.track9.proofs.Words.{LeadsOn, None, on_halves, Option, panel_passed, Possible, Presets, presets_after, refl}
 use Rattle.track9.proofs.Words.{shown_by, Some, states_remain, State, States, DeckStep, subst, switched, sym, Taken, StepOrPass, true, halves_drifted, halves_of, HalvesBelow, HalvesFew, Halves}
-use Rattle.track9.proofs.Words.{Profile, Rate, rate_for, rate_in, untouched, HalvesWhole, with_command, ◌↔◌, ◌∙◌, ◌≡◌, ◌⊎◌}
+use Rattle.track9.proofs.Words.{Profile, Rate, states_rate, halves_rate, untouched, HalvesWhole, with_command, ◌↔◌, ◌∙◌, ◌≡◌, ◌⊎◌}
 use Rattle.deck9.specs.declared.effect.Effect.TheVariants as effect
 use Rattle.deck9.specs.declared.sense.Sense.TheVariants as sense
 use Rattle.deck9.specs.declared.state.Hands.TheVariants as hands
 use Rattle.track9.proofs.EffectLemmas.{shows_or_acts, command_counts, drift_leads, leads_as, leads_same, leads_then, presets_of}
 use Rattle.track9.proofs.PartLemmas.{drifted_all, all_exactly, both_few, by_panel, drift_below, drift_few, drift_panel, drift_state, drift_whole, few_halves, first_exactly, live_some}
-use Rattle.track9.proofs.PartLemmas.{of_rate, off_drift, halves_rate, whole_in, possible_state, same_drift, some_live, state_is, halves_live, halves_none, halves_state, whole_halves}
+use Rattle.track9.proofs.PartLemmas.{of_rate, off_drift, whole_rate, whole_in, possible_state, same_drift, some_live, state_is, halves_live, halves_none, halves_state, whole_halves}
 use Rattle.std.proofs.Common.{arith}
 use Rattle.std.specs.FinSet as set
 
@@ -37,10 +37,10 @@ pub leads_off : (deck : Option Deck) (rate : Rate) (Goes : Profile → State →
     → AllLeadOn (untouched deck rate) (Goes (untouched deck rate)) count (panel_off h) (panel_off g)
 leads_off deck rate Goes count keeps h g leads = record {
   reached = by_panel (Goes (untouched deck rate)) keeps (panel_off h) (panel_off g) (leads.reached false)
-      (λ t i. halves_none (rate_in g) t i.1, λ s t i goes. halves_none (rate_in h) s i.1);
-  profile = ap (untouched deck) (halves_rate rate g leads.whole);
+      (λ t i. halves_none (halves_rate g) t i.1, λ s t i goes. halves_none (halves_rate h) s i.1);
+  profile = ap (untouched deck) (whole_rate rate g leads.whole);
   whole = record { off = leads.whole; on = whole_halves rate false };
-  few = λ n few. both_few (count n) (panel_off g) (leads.few n (few false)) (few_halves (rate_in g) (count n) false);
+  few = λ n few. both_few (count n) (panel_off g) (leads.few n (few false)) (few_halves (halves_rate g) (count n) false);
 }
 
 -- all times of two parts are times of the day
@@ -64,28 +64,28 @@ narrow_take deck rate c reply narrow = record { same = λ h k s t given. grind (
 abbrev pub with_hands : Halves → Halves → States
 with_hands off on = record { off = off; on = Some on }
 
-both_lead : (deck : Option Deck) (Goes : State → State → Type 0) (count : Presets → Presets) (v : States) (off on : Halves) → HalvesWhole (rate_for v) off
-    → HalvesWhole (rate_for v) on → ((n : Presets) → AreFew n v → HalvesFew (count n) off × HalvesFew (count n) on)
-    → AreReached (Possible v) Goes (Possible (with_hands off on)) → AllLeadOn (touched deck (rate_for v)) Goes count v (with_hands off on)
+both_lead : (deck : Option Deck) (Goes : State → State → Type 0) (count : Presets → Presets) (v : States) (off on : Halves) → HalvesWhole (states_rate v) off
+    → HalvesWhole (states_rate v) on → ((n : Presets) → AreFew n v → HalvesFew (count n) off × HalvesFew (count n) on)
+    → AreReached (Possible v) Goes (Possible (with_hands off on)) → AllLeadOn (touched deck (states_rate v)) Goes count v (with_hands off on)
 both_lead deck Goes count v off on whole_off whole_on few reached = record {
   reached = reached;
-  profile = ap (touched deck) (halves_rate (rate_for v) off whole_off);
+  profile = ap (touched deck) (whole_rate (states_rate v) off whole_off);
   whole = record { off = whole_off; on = whole_on };
   few = λ n h. both_few (count n) (with_hands off on) (few n h).0 (few n h).1;
 }
 
 -- a hand leads from a state with the panel on to any
-pub leads_both : (deck : Option Deck) (Goes : Profile → State → State → Type 0) (count : Presets → Presets) (v : States) (off on : Halves) → IsNarrow deck (rate_for v) Goes
-    → AreWhole (rate_for v) v → AreBelow v
-    → LeadsOn (rate_for v) (DriftsAndGoes Goes (untouched deck (rate_for v))) count v.off off
-    → LeadsOn (rate_for v) (DriftsAndGoes Goes (untouched deck (rate_for v))) count (all_or_none (rate_for v) (remains_with_panel_on v)) on
-    → AllLeadOn (touched deck (rate_for v)) (DriftsAndGoes Goes (touched deck (rate_for v))) count v (with_hands off on)
-leads_both deck Goes count v off on narrow whole below first second = both_lead deck (DriftsAndGoes Goes (touched deck (rate_for v))) count v off on first.whole second.whole
-    (λ n few. (first.few n (few false), second.few n (few_halves (rate_for v) n (remains_with_panel_on v))))
-    (by_panel (DriftsAndGoes Goes (touched deck (rate_for v))) keeps v (with_hands off on) off_reached on_reached)
+pub leads_both : (deck : Option Deck) (Goes : Profile → State → State → Type 0) (count : Presets → Presets) (v : States) (off on : Halves) → IsNarrow deck (states_rate v) Goes
+    → AreWhole (states_rate v) v → AreBelow v
+    → LeadsOn (states_rate v) (DriftsAndGoes Goes (untouched deck (states_rate v))) count v.off off
+    → LeadsOn (states_rate v) (DriftsAndGoes Goes (untouched deck (states_rate v))) count (all_or_none (states_rate v) (remains_with_panel_on v)) on
+    → AllLeadOn (touched deck (states_rate v)) (DriftsAndGoes Goes (touched deck (states_rate v))) count v (with_hands off on)
+leads_both deck Goes count v off on narrow whole below first second = both_lead deck (DriftsAndGoes Goes (touched deck (states_rate v))) count v off on first.whole second.whole
+    (λ n few. (first.few n (few false), second.few n (few_halves (states_rate v) n (remains_with_panel_on v))))
+    (by_panel (DriftsAndGoes Goes (touched deck (states_rate v))) keeps v (with_hands off on) off_reached on_reached)
   where
     rate : Rate
-    rate = rate_for v
+    rate = states_rate v
 
     keeps : (s t : State) → DriftsAndGoes Goes (touched deck rate) s t → t.panel ≡ s.panel
     keeps s t (d, drift, step) = narrow.panel d t (d, ([], refl), narrow.same hands.Allowed hands.None d t step) ∙ drift_panel (touched deck rate) s d drift
@@ -133,7 +133,7 @@ wide_step deck rate c reply e was wide = (
     asks_nothing = grind (arith, shows_or_acts deck c reply, ok)
 
 -- a drift alone
-pub follows_drift : (deck : Option Deck) (v : States) → AreWhole (rate_for v) v → AreBelow v → FollowsDrift (touched deck (rate_for v)) v (all_drifted deck v)
+pub follows_drift : (deck : Option Deck) (v : States) → AreWhole (states_rate v) v → AreBelow v → FollowsDrift (touched deck (states_rate v)) v (all_drifted deck v)
 follows_drift deck v whole below = record {
   reached = (
     λ t i. let w = all.reached.0 t i in (w.0, w.1, subst (Drift (touched deck rate) w.0) (sym w.2.2) w.2.1),
@@ -145,7 +145,7 @@ follows_drift deck v whole below = record {
 }
   where
     rate : Rate
-    rate = rate_for v
+    rate = states_rate v
 
     stays : (h : Halves) → HalvesWhole rate h → LeadsOn rate (DriftsAndGoes (λ p s t. t ≡ s) (untouched deck rate)) (λ n. n) h (halves_drifted deck h)
     stays h whole = leads_then rate (Drift (untouched deck rate)) (λ s t. t ≡ s) (λ n. n) (λ n. n) h (halves_drifted deck h) (halves_drifted deck h) (drift_leads deck rate h whole)
@@ -166,48 +166,48 @@ in_panel h t b i = grind arith
 switched_exactly : (rate : Rate) (on : Bool) (h : Halves) (t : State) → Possible (switched rate on h) t ↔ InHalves on h t
 switched_exactly rate on h t = grind arith
 
-either_whole : (deck : Option Deck) (v : States) → AreWhole (rate_for v) v → HalvesWhole (rate_for v) (either_panel deck v)
-either_whole deck v whole = grind (arith, whole_halves (rate_for v) true, drift_whole deck (rate_for v) v.off whole.off)
+either_whole : (deck : Option Deck) (v : States) → AreWhole (states_rate v) v → HalvesWhole (states_rate v) (either_panel deck v)
+either_whole deck v whole = grind (arith, whole_halves (states_rate v) true, drift_whole deck (states_rate v) v.off whole.off)
 
 either_few : (deck : Option Deck) (v : States) (n : Presets) → AreFew n v → HalvesFew n (either_panel deck v)
-either_few deck v n few = grind (arith, few_halves (rate_for v) n true, drift_few deck n v.off (few false))
+either_few deck v n few = grind (arith, few_halves (states_rate v) n true, drift_few deck n v.off (few false))
 
 -- a state that a drift leads to is one of those put together whatever the panel, and each of them is one, with some value of the panel
-either_to : (deck : Option Deck) (v : States) (t : State) (pn : Bool) → IsState (rate_for v) t → IsIn (if pn then (all_drifted deck v).on else Some (all_drifted deck v).off) t
+either_to : (deck : Option Deck) (v : States) (t : State) (pn : Bool) → IsState (states_rate v) t → IsIn (if pn then (all_drifted deck v).on else Some (all_drifted deck v).off) t
     → InPart (in_local (either_panel deck v) t.local) t
-either_to deck v t pn valid i = cond_both (remains_with_panel_on v) (all_or_none (rate_for v) true) (halves_drifted deck v.off) (λ h. InPart (in_local h t.local) t)
-    (λ on. (all_exactly (rate_for v) true t).1 (refl, valid)) (λ off. grind (arith, i, off, all_exactly (rate_for v) false t))
+either_to deck v t pn valid i = cond_both (remains_with_panel_on v) (all_or_none (states_rate v) true) (halves_drifted deck v.off) (λ h. InPart (in_local h t.local) t)
+    (λ on. (all_exactly (states_rate v) true t).1 (refl, valid)) (λ off. grind (arith, i, off, all_exactly (states_rate v) false t))
 
 either_from : (deck : Option Deck) (v : States) (t : State) → InPart (in_local (either_panel deck v) t.local) t → (pn : Bool) × Possible (all_drifted deck v) (record t { panel = pn })
-either_from deck v t i = (elim (remains_with_panel_on v) as (λ b. InPart (in_local (if b then all_or_none (rate_for v) true else halves_drifted deck v.off) t.local) t
-    → (pn : Bool) × IsIn (if pn then Some (all_or_none (rate_for v) b) else Some (halves_drifted deck v.off)) (record t { panel = pn }))
-    [ true ↦ λ i. (true, (in_panel (all_or_none (rate_for v) true) t true i).1) | false ↦ λ i. (false, (in_panel (halves_drifted deck v.off) t false i).1) ]) i
+either_from deck v t i = (elim (remains_with_panel_on v) as (λ b. InPart (in_local (if b then all_or_none (states_rate v) true else halves_drifted deck v.off) t.local) t
+    → (pn : Bool) × IsIn (if pn then Some (all_or_none (states_rate v) b) else Some (halves_drifted deck v.off)) (record t { panel = pn }))
+    [ true ↦ λ i. (true, (in_panel (all_or_none (states_rate v) true) t true i).1) | false ↦ λ i. (false, (in_panel (halves_drifted deck v.off) t false i).1) ]) i
 
-panel_reached : (deck : Option Deck) (on : Bool) (v : States) → AreWhole (rate_for v) v → AreBelow v
-    → AreReached (Possible v) (DriftsAndGoes (λ p. Does p (effect.Panel on)) (touched deck (rate_for v))) (Possible (after_panel deck on v))
+panel_reached : (deck : Option Deck) (on : Bool) (v : States) → AreWhole (states_rate v) v → AreBelow v
+    → AreReached (Possible v) (DriftsAndGoes (λ p. Does p (effect.Panel on)) (touched deck (states_rate v))) (Possible (after_panel deck on v))
 panel_reached deck on v whole below = let drifts = (follows_drift deck v whole below).reached in (
   λ t i.
-      let here = (switched_exactly (rate_for v) on (either_panel deck v) t).0 i in let w = either_from deck v t here.1 in let a = drifts.0 (record t { panel = w.0 }) w.1 in
+      let here = (switched_exactly (states_rate v) on (either_panel deck v) t).0 i in let w = either_from deck v t here.1 in let a = drifts.0 (record t { panel = w.0 }) w.1 in
       (a.0, a.1, (record t { panel = w.0 }, a.2, ap (λ b. record t { panel = b }) here.0)),
-  λ s t i (d, drift, same). rw same ((switched_exactly (rate_for v) on (either_panel deck v) (record d { panel = on })).1 (in_panel (either_panel deck v) d on
-      (either_to deck v d d.panel (drift_state (touched deck (rate_for v)) s d (possible_state (rate_for v) v s whole below i) drift) (drifts.1 s d i drift)))),
+  λ s t i (d, drift, same). rw same ((switched_exactly (states_rate v) on (either_panel deck v) (record d { panel = on })).1 (in_panel (either_panel deck v) d on
+      (either_to deck v d d.panel (drift_state (touched deck (states_rate v)) s d (possible_state (states_rate v) v s whole below i) drift) (drifts.1 s d i drift)))),
 )
 
-pub follows_panel : (deck : Option Deck) (c : Command) (reply : Block) (on : Bool) (v : States) → effect_taken deck c (Some reply) ≡ effect.Panel on → AreWhole (rate_for v) v → AreBelow v
-    → Follows (touched deck (rate_for v)) c (Some reply) v (after_panel deck on v)
+pub follows_panel : (deck : Option Deck) (c : Command) (reply : Block) (on : Bool) (v : States) → effect_taken deck c (Some reply) ≡ effect.Panel on → AreWhole (states_rate v) v → AreBelow v
+    → Follows (touched deck (states_rate v)) c (Some reply) v (after_panel deck on v)
 follows_panel deck c reply on v was whole below =
-    let w = wide_step deck (rate_for v) c reply (effect.Panel on) was refl in let goes = panel_reached deck on v whole below in by on (
+    let w = wide_step deck (states_rate v) c reply (effect.Panel on) was refl in let goes = panel_reached deck on v whole below in by on (
       λ t i. let a = goes.0 t i in (a.0, a.1, (a.2.0, a.2.1, (w.0 a.2.0 t).1 a.2.2)),
       λ s t i step. goes.1 s t i (step.0, step.1, (w.0 step.0 t).0 step.2),
     ) (λ n few. rw (w.1 n refl) (either_few deck v n few))
   where
-    by : (on : Bool) → AreReached (Possible v) (DriftsAndGoes (StepOrPass c (Some reply)) (touched deck (rate_for v))) (Possible (after_panel deck on v))
+    by : (on : Bool) → AreReached (Possible v) (DriftsAndGoes (StepOrPass c (Some reply)) (touched deck (states_rate v))) (Possible (after_panel deck on v))
         → ((n : Presets) → AreFew n v → HalvesFew (presets_after c reply true n) (either_panel deck v))
-        → Follows (touched deck (rate_for v)) c (Some reply) v (after_panel deck on v)
-    by true r few = both_lead deck _ _ v (all_or_none (rate_for v) false) (either_panel deck v) (whole_halves (rate_for v) false) (either_whole deck v whole)
-        (λ n h. (few_halves (rate_for v) _ false, few n h)) r
-    by false r few = both_lead deck _ _ v (either_panel deck v) (all_or_none (rate_for v) false) (either_whole deck v whole) (whole_halves (rate_for v) false)
-        (λ n h. (few n h, few_halves (rate_for v) _ false)) r
+        → Follows (touched deck (states_rate v)) c (Some reply) v (after_panel deck on v)
+    by true r few = both_lead deck _ _ v (all_or_none (states_rate v) false) (either_panel deck v) (whole_halves (states_rate v) false) (either_whole deck v whole)
+        (λ n h. (few_halves (states_rate v) _ false, few n h)) r
+    by false r few = both_lead deck _ _ v (either_panel deck v) (all_or_none (states_rate v) false) (either_whole deck v whole) (whole_halves (states_rate v) false)
+        (λ n h. (few n h, few_halves (states_rate v) _ false)) r
 
 -- ---- everything is forgotten
 
@@ -217,21 +217,21 @@ first_tracked rate h n = record {
   few = grind (arith, few_halves rate n true, few_halves rate n false);
 }
 
-pub leads_forgotten : (deck : Option Deck) (Goes : State → State → Type 0) (count : Presets → Presets) (v : States) → hands_of v ≡ hands.Allowed → AreWhole (rate_for v) v
-    → ((s t : State) → IsState (rate_for v) t → Goes s t) → ((s t : State) → Possible v s → Goes s t → IsState (rate_for v) t)
-    → ((n : Presets) → count n ≡ n) → AllLeadOn (touched deck (rate_for v)) Goes count v (if states_remain v then first_states (rate_for v) hands.Allowed else v)
+pub leads_forgotten : (deck : Option Deck) (Goes : State → State → Type 0) (count : Presets → Presets) (v : States) → hands_of v ≡ hands.Allowed → AreWhole (states_rate v) v
+    → ((s t : State) → IsState (states_rate v) t → Goes s t) → ((s t : State) → Possible v s → Goes s t → IsState (states_rate v) t)
+    → ((n : Presets) → count n ≡ n) → AllLeadOn (touched deck (states_rate v)) Goes count v (if states_remain v then first_states (states_rate v) hands.Allowed else v)
 leads_forgotten deck Goes count v allowed whole there back counts = by (states_remain v) refl
   where
-    by : (b : Bool) → states_remain v ≡ b → AllLeadOn (touched deck (rate_for v)) Goes count v (if b then first_states (rate_for v) hands.Allowed else v)
-    by true live = both_lead deck Goes count v (all_or_none (rate_for v) true) (all_or_none (rate_for v) true)
-        (whole_halves (rate_for v) true) (whole_halves (rate_for v) true)
-        (λ n few. (few_halves (rate_for v) (count n) true, few_halves (rate_for v) (count n) true)) (
-          λ t i. let s = live_some (rate_for v) v whole live in (s.0, s.1, there s.0 t ((first_exactly (touched deck (rate_for v)) t).0 i).0),
-          λ s t i goes. (first_exactly (touched deck (rate_for v)) t).1 (back s t i goes, tt),
+    by : (b : Bool) → states_remain v ≡ b → AllLeadOn (touched deck (states_rate v)) Goes count v (if b then first_states (states_rate v) hands.Allowed else v)
+    by true live = both_lead deck Goes count v (all_or_none (states_rate v) true) (all_or_none (states_rate v) true)
+        (whole_halves (states_rate v) true) (whole_halves (states_rate v) true)
+        (λ n few. (few_halves (states_rate v) (count n) true, few_halves (states_rate v) (count n) true)) (
+          λ t i. let s = live_some (states_rate v) v whole live in (s.0, s.1, there s.0 t ((first_exactly (touched deck (states_rate v)) t).0 i).0),
+          λ s t i goes. (first_exactly (touched deck (states_rate v)) t).1 (back s t i goes, tt),
         )
     by false dead = record {
       reached = (λ t i. absurd (false≢true (sym dead ∙ some_live v t i)), λ s t i goes. absurd (false≢true (sym dead ∙ some_live v s i)));
-      profile = ap (deck_of deck (rate_for v)) allowed;
+      profile = ap (deck_of deck (states_rate v)) allowed;
       whole = whole;
       few = λ n few. subst (λ m. AreFew m v) (sym (counts n)) few;
     }
@@ -254,12 +254,12 @@ passed_effect deck rate c h g whole below has = leads_then rate (Drift (untouche
 
 -- a state after a passed switch is one of those that stayed, or one of those that the switch leads to
 passed_exactly : (deck : Option Deck) (on : Bool) (v : States) (t : State) → (Possible (panel_passed deck on v) t → Possible (all_drifted deck v) t ⊎ Possible (after_panel deck on v) t)
-    × ((IsState (rate_for v) t × Possible (all_drifted deck v) t) ⊎ Possible (after_panel deck on v) t → Possible (panel_passed deck on v) t)
-passed_exactly deck on v t = grind (arith, either_to deck v t t.panel, all_exactly (rate_for v) false t)
+    × ((IsState (states_rate v) t × Possible (all_drifted deck v) t) ⊎ Possible (after_panel deck on v) t → Possible (panel_passed deck on v) t)
+passed_exactly deck on v t = grind (arith, either_to deck v t t.panel, all_exactly (states_rate v) false t)
 
 -- the panel may be switched
-pub passed_panel : (deck : Option Deck) (c : Command) (on : Bool) (v : States) → effect_of deck c ≡ effect.Panel on → AreWhole (rate_for v) v → AreBelow v
-    → Follows (touched deck (rate_for v)) c None v (panel_passed deck on v)
+pub passed_panel : (deck : Option Deck) (c : Command) (on : Bool) (v : States) → effect_of deck c ≡ effect.Panel on → AreWhole (states_rate v) v → AreBelow v
+    → Follows (touched deck (states_rate v)) c None v (panel_passed deck on v)
 passed_panel deck c on v is whole below = by on (
   λ t i. elim ((passed_exactly deck on v t).0 i) [
     | inl stays ↦ let a = drifts.0 t stays in (a.0, a.1, (t, a.2, inl refl))
@@ -272,7 +272,7 @@ passed_panel deck c on v is whole below = by on (
 )
   where
     rate : Rate
-    rate = rate_for v
+    rate = states_rate v
 
     drifts : AreReached (Possible v) (Drift (touched deck rate)) (Possible (all_drifted deck v))
     drifts = (follows_drift deck v whole below).reached
@@ -287,17 +287,17 @@ passed_panel deck c on v is whole below = by on (
     by false = both_lead deck _ _ v (either_panel deck v) (all_or_none rate (remains_with_panel_on v)) (either_whole deck v whole) (whole_halves rate (remains_with_panel_on v))
         (λ n few. rw (same n) (either_few deck v n few, few_halves rate n (remains_with_panel_on v)))
 
-pub follows_forget : (deck : Option Deck) (c : Command) (reply : Option Block) (v : States) → effect_taken deck c reply ≡ effect.Forget Everything → hands_of v ≡ hands.Allowed → AreWhole (rate_for v) v
+pub follows_forget : (deck : Option Deck) (c : Command) (reply : Option Block) (v : States) → effect_taken deck c reply ≡ effect.Forget Everything → hands_of v ≡ hands.Allowed → AreWhole (states_rate v) v
     → AreBelow v
-    → Follows (touched deck (rate_for v)) c reply v (if states_remain v then first_states (rate_for v) hands.Allowed else v)
-follows_forget deck c None v is allowed whole below = leads_forgotten deck (DriftsAndGoes (StepOrPass c None) (touched deck (rate_for v))) (counts_after c None) v allowed whole
+    → Follows (touched deck (states_rate v)) c reply v (if states_remain v then first_states (states_rate v) hands.Allowed else v)
+follows_forget deck c None v is allowed whole below = leads_forgotten deck (DriftsAndGoes (StepOrPass c None) (touched deck (states_rate v))) (counts_after c None) v allowed whole
     (λ s t valid. (s, ([], refl), inr (rw is (valid, tt))))
     (λ s t i (d, drift, can). elim can [
-      | inl e ↦ subst (IsState (rate_for v)) (sym e) (drift_state (touched deck (rate_for v)) s d (possible_state (rate_for v) v s whole below i) drift)
+      | inl e ↦ subst (IsState (states_rate v)) (sym e) (drift_state (touched deck (states_rate v)) s d (possible_state (states_rate v) v s whole below i) drift)
       | inr does ↦
-          (subst (λ e. Does (touched deck (rate_for v)) e d t) is does).0
+          (subst (λ e. Does (touched deck (states_rate v)) e d t) is does).0
     ])
     (λ n. command_counts deck c n ∙ ap (λ e. counted e n) is)
-follows_forget deck c (Some reply) v was allowed whole below = let w = wide_step deck (rate_for v) c reply (effect.Forget Everything) was refl in
-    leads_forgotten deck (DriftsAndGoes (StepOrPass c (Some reply)) (touched deck (rate_for v))) (counts_after c (Some reply)) v allowed whole
+follows_forget deck c (Some reply) v was allowed whole below = let w = wide_step deck (states_rate v) c reply (effect.Forget Everything) was refl in
+    leads_forgotten deck (DriftsAndGoes (StepOrPass c (Some reply)) (touched deck (states_rate v))) (counts_after c (Some reply)) v allowed whole
     (λ s t valid. (s, ([], refl), (w.0 s t).1 (valid, tt))) (λ s t i goes. ((w.0 goes.0 t).0 goes.2).0) (λ n. w.1 n refl)

@@ -12,7 +12,7 @@ use Rattle.track9.proofs.Words.{KeepsRest, List, Mode, modes, ModeSet, no_states
 use Rattle.track9.proofs.Words.{pairs_from_drift, part_of, Part, Possible, Presets, refl, RegAudioIn, RegAudioOut, RegIn, Register, RegOut, same_entries, set_entries}
 use Rattle.track9.proofs.Words.{same_test, SetAt, settled, Some, some_entry, some_mode, some_pair, states_remain, halves_remain, span_count-in_day, State, States, subst, sym}
 use Rattle.track9.proofs.Words.{Times, true, halves_drifted, halves_of, HalvesBelow, HalvesFew, Halves, HalvesWhole, Whole, with_entries, with_entry, with_pairs, ℕ, ◌&&◌, ◌+◌, ◌||◌}
-use Rattle.track9.proofs.Words.{just_of, Profile, Rate, rate_for, rate_in, rate_of, untouched, ◌↔◌, ◌∙◌, ◌≡◌, ◌≤◌}
+use Rattle.track9.proofs.Words.{just_of, Profile, Rate, states_rate, halves_rate, part_rate, untouched, ◌↔◌, ◌∙◌, ◌≡◌, ◌≤◌}
 use Rattle.deck9.specs.declared.effect.Effect.TheVariants as effect
 use Rattle.track9.proofs.EntryLemmas.{allowed_some, day_in, drifted_from, drifted_to, goes_from, in_day, no_entry, pair_by_goal, pairs_some, some_allowed}
 
@@ -103,7 +103,7 @@ in_none rate t h = absurd (false≢true (sym (pair_by_goal (λ g. modes 0) t.goa
 
 pub settled_exactly : (p : Part) (t : State) → InPart (settled p) t ↔ InPart p t
 settled_exactly p t = (
-  λ i. cond_both _ p (no_states (rate_of p)) (λ q. InPart q t → InPart p t) (λ e i. i) (λ e i. in_none (rate_of p) t i) i,
+  λ i. cond_both _ p (no_states (part_rate p)) (λ q. InPart q t → InPart p t) (λ e i. i) (λ e i. in_none (part_rate p) t i) i,
   λ i. let some = λ (r : Register). allowed_some (entries_of r p) (entry_of r t) (i.registers r) in
       grind (arith, i, state_live p t i, some RegIn, some RegOut, some RegAudioIn, some RegAudioOut),
 )
@@ -134,7 +134,7 @@ all_five : (a b c d e : Bool) → (a && b && c && d && e) ≡ true → (b ≡ a)
 all_five a b c d e h = grind arith
 
 pub whole_settled : (rate : Rate) (p : Part) → OfRate rate p → Whole rate (settled p)
-whole_settled rate p same = cond_both _ p (no_states (rate_of p)) (Whole rate)
+whole_settled rate p same = cond_both _ p (no_states (part_rate p)) (Whole rate)
     (λ e. let w = all_five _ _ _ _ _ e in each_register _ (w.0, same RegIn) (w.1, same RegOut) (w.2, same RegAudioIn) (w.3, same RegAudioOut))
     (λ e. subst (λ other. Whole rate (no_states other)) (sym (same RegIn)) (whole_none rate))
 
@@ -168,18 +168,18 @@ pub whole_in : (rate : Rate) (h : Halves) → HalvesWhole rate h → (l : Bool) 
 whole_in rate h whole l = grind arith
 
 -- the rate of what is whole
-pub halves_rate : (rate : Rate) (h : Halves) → HalvesWhole rate h → rate_in h ≡ rate
-halves_rate rate h whole = (whole.remote RegIn).1
+pub whole_rate : (rate : Rate) (h : Halves) → HalvesWhole rate h → halves_rate h ≡ rate
+whole_rate rate h whole = (whole.remote RegIn).1
 
 -- by the rate that they have
-pub own_part : (rate : Rate) (p : Part) → Whole rate p → Whole (rate_of p) p
+pub own_part : (rate : Rate) (p : Part) → Whole rate p → Whole (part_rate p) p
 own_part rate p whole = subst (λ other. Whole other p) (sym (whole RegIn).1) whole
 
-pub own_on : (v : States) (h : Halves) → AreWhole (rate_for v) v → v.on ≡ Some h → HalvesWhole (rate_in h) h
-own_on v h whole on = grind (arith, halves_rate (rate_for v) h, whole.on)
+pub own_on : (v : States) (h : Halves) → AreWhole (states_rate v) v → v.on ≡ Some h → HalvesWhole (halves_rate h) h
+own_on v h whole on = grind (arith, whole_rate (states_rate v) h, whole.on)
 
 pub whole_of : (rate : Rate) (v : States) → AreWhole rate v → (pn : Bool) → HalvesWhole rate (halves_of v pn)
-whole_of rate v whole pn = grind (arith, halves_rate rate v.off whole.off, whole.off, whole.on)
+whole_of rate v whole pn = grind (arith, whole_rate rate v.off whole.off, whole.off, whole.on)
 
 pub part_whole : (rate : Rate) (v : States) → AreWhole rate v → (l pn : Bool) → Whole rate (part_of v l pn)
 part_whole rate v whole l pn = whole_in rate (halves_of v pn) (whole_of rate v whole pn) l
@@ -225,7 +225,7 @@ few_changed may_stay c es n below h =
     grind (arith, few_in_day, few_just, begin_count-insert, begin_count-next, begin_count-widened_next, begin_count-prev, begin_count-widened_prev, begin_count-empty, begin_count-every_time)
 
 pub few_settled : (n : Presets) (p : Part) → FewIn n p → FewIn n (settled p)
-few_settled n p h = cond_both _ p (no_states (rate_of p)) (FewIn n) (λ e. h) (λ e. few_no_states (rate_of p) n)
+few_settled n p h = cond_both _ p (no_states (part_rate p)) (FewIn n) (λ e. h) (λ e. few_no_states (part_rate p) n)
 
 pub few_put : (n : Presets) (r : Register) (es : Entries) (p : Part) → FewIn n p → FewTimes (count_of r n) es → FewIn n (with_entries r es p)
 few_put n r es p old new q = grind (arith, old q, new)
@@ -250,7 +250,7 @@ few_changed_part may_stay r c n p below h q =
 pub few_halves : (rate : Rate) (n : Presets) (b : Bool) → HalvesFew n (all_or_none rate b)
 few_halves rate n b l r = grind (arith, few_all_states rate n r, few_no_states rate n r)
 
-pub both_few : (n : Presets) (v : States) → HalvesFew n v.off → HalvesFew n (on_halves (rate_for v) v.on) → AreFew n v
+pub both_few : (n : Presets) (v : States) → HalvesFew n v.off → HalvesFew n (on_halves (states_rate v) v.on) → AreFew n v
 both_few n v off on = grind arith
 
 pub few_pairs : (n : Presets) (q : List ModeSet) (p : Part) → FewIn n p → FewIn n (with_pairs q p)
@@ -288,7 +288,7 @@ of_halves v s pn h = possible v s s.local pn refl h.0 h.1
 -- a step that keeps the panel is one of each value of it
 pub by_panel : (Goes : State → State → Type 0) → ((s t : State) → Goes s t → t.panel ≡ s.panel) → (v w : States)
     → AreReached (InHalves false v.off) Goes (InHalves false w.off)
-    → AreReached (InHalves true (on_halves (rate_for v) v.on)) Goes (InHalves true (on_halves (rate_for w) w.on)) → AreReached (Possible v) Goes (Possible w)
+    → AreReached (InHalves true (on_halves (states_rate v) v.on)) Goes (InHalves true (on_halves (states_rate w) w.on)) → AreReached (Possible v) Goes (Possible w)
 by_panel Goes keeps v w off on = (
   λ t h. let a = (each t.panel).0 t (to_halves w t t.panel refl h) in (a.0, of_halves v a.0 t.panel a.1, a.2),
   λ s t h goes. of_halves w t s.panel ((each s.panel).1 s t (to_halves v s s.panel refl h) goes),

@@ -5,7 +5,7 @@ use Rattle.track9.proofs.Words.{Allows, and_from, and_parts, AreBelow, arith, be
 use Rattle.track9.proofs.Words.{cond_both, entries_known, Entry, false, has, has_pair, if◌then◌else◌, in_local, InPart, is_as_wanted, IsEntry, IsFirst, IsIn}
 use Rattle.track9.proofs.Words.{AreTracked, IsState, Mode, modes_known, ModeSet, no_states, None, Option, part_from, part_known}
 use Rattle.track9.proofs.Words.{Possible, Presets, refl, RegAudioIn, RegAudioOut, RegIn, RegOut, Some, Start, StartsFrom, State, states_from}
-use Rattle.track9.proofs.Words.{AreWhole, Rate, rate_for, settled, untouched, subst, sym, true, halves_from, Whole, Is, ◌↔◌, ◌∙◌, ◌≡◌}
+use Rattle.track9.proofs.Words.{AreWhole, Rate, states_rate, settled, untouched, subst, sym, true, halves_from, Whole, Is, ◌↔◌, ◌∙◌, ◌≡◌}
 use Rattle.std.specs.FinSet as set
 use Rattle.track9.proofs.KnownLemmas.{goal_to}
 use Rattle.track9.proofs.EntryLemmas.{just_is, just_self, pairs_have}
@@ -61,12 +61,12 @@ starts_from : (rate : Rate) (k : Start) (s : State) → IsState rate s → Start
 starts_from rate k s valid w = rw ((local_exactly k.local s.local).1 w.local) ((settled_exactly (part_known rate k) s).1 (starts_in rate k s valid w))
 
 -- the rate of the states
-pub from_rate : (rate : Rate) (k : Start) → rate_for (states_from rate k) ≡ rate
+pub from_rate : (rate : Rate) (k : Start) → states_rate (states_from rate k) ≡ rate
 from_rate rate k = of_rate rate (part_from rate k false) (whole_from rate k false) RegIn
 
 -- ---- all states
 
-start_whole : (rate : Rate) (k : Start) → AreWhole (rate_for (states_from rate k)) (states_from rate k)
+start_whole : (rate : Rate) (k : Start) → AreWhole (states_rate (states_from rate k)) (states_from rate k)
 start_whole rate k = subst (λ other. AreWhole other (states_from rate k)) (sym (from_rate rate k)) (record {
   off = record { remote = whole_from rate k false; local = whole_from rate k true };
   on = whole_halves rate false;
@@ -75,14 +75,14 @@ start_whole rate k = subst (λ other. AreWhole other (states_from rate k)) (sym 
 pub start_tracked : (rate : Rate) (k : Start) (n : Presets) → AreTracked n (states_from rate k)
 start_tracked rate k n = record {
   whole = start_whole rate k;
-  few = both_few n (states_from rate k) (λ l. rw (by_local rate k l) (few_from rate n k l)) (few_halves (rate_for (states_from rate k)) n false);
+  few = both_few n (states_from rate k) (λ l. rw (by_local rate k l) (few_from rate n k l)) (few_halves (states_rate (states_from rate k)) n false);
 }
 
 pub start_exactly : (deck : Option Deck) (rate : Rate) (k : Start) (s : State) → AreBelow (states_from rate k)
     → Possible (states_from rate k) s ↔ (IsFirst (untouched deck rate) s × StartsFrom k s)
 start_exactly deck rate k s below = (
   λ i. let valid = subst (λ other. IsState other s) (from_rate rate k)
-      (possible_state (rate_for (states_from rate k)) (states_from rate k) s (start_whole rate k) below i) in by_panel s.panel refl valid i,
+      (possible_state (states_rate (states_from rate k)) (states_from rate k) s (start_whole rate k) below i) in by_panel s.panel refl valid i,
   λ w. possible (states_from rate k) s s.local false refl w.0.1 (rw (by_local rate k s.local) (starts_from rate k s w.0.0 w.1)),
 )
   where

@@ -2,12 +2,12 @@
 use Rattle.track9.proofs.Words.{all_has, all_shown, AllLeadOn, Allows, and_from, AreBelow, AreReached, AreTracked, AreWhole, cond_both}
 use Rattle.track9.proofs.Words.{begin_count-every_time, Bool, Deck, Entries, entries_of, Entry, entry_of, false, goals_of, Halves, HalvesBelow, HalvesFew, HalvesWhole}
 use Rattle.track9.proofs.Words.{has_pair, if◌then◌else◌, in_local, InHalves, InPart, LeadsOn, List, Mode, modes, ModeSet, None, not, on_halves}
-use Rattle.track9.proofs.Words.{Option, option_map, Part, part_remains, Presets, profile_of, Rate, rate_for, refl, RegAudioIn, RegAudioOut, RegIn, Register, RegOut, shown_with, Some}
+use Rattle.track9.proofs.Words.{Option, option_map, Part, part_remains, Presets, profile_of, Rate, states_rate, refl, RegAudioIn, RegAudioOut, RegIn, Register, RegOut, shown_with, Some}
 use Rattle.track9.proofs.Words.{some_entry, some_mode, some_pair, State, States, subst, sym, true, where_remains, Whole, ◌∙◌, ◌≡◌}
 use Rattle.std.proofs.Common.{arith}
 use Rattle.track9.proofs.EntryLemmas.{goals_has, in_day, goes_from, goes_to, pair_by_goal, pairs_some, some_allowed, pairs_have}
 use Rattle.track9.proofs.KnownLemmas.{goal_to, whole_at_rate}
-use Rattle.track9.proofs.PartLemmas.{both_few, of_rate, by_panel, each_register, entry_exactly, FewIn, halves_none, halves_rate, not_live, PartBelow, state_is, state_live, whole_in}
+use Rattle.track9.proofs.PartLemmas.{both_few, of_rate, by_panel, each_register, entry_exactly, FewIn, halves_none, whole_rate, not_live, PartBelow, state_is, state_live, whole_in}
 use Rattle.track9.specs.Touched.{StaysIf, Touches}
 use Rattle.track9.specs.Working.Touched.{halves_touched, states_touched, touched_entries, touched_from, touched_pairs, touched_part}
 use Rattle.track9.specs.declared.kept.Kept.{Kept}
@@ -117,12 +117,12 @@ on_leads rate k None whole below = record {
   few = λ n few. few;
 }
 
-pub touch_leads : (deck : Option Deck) (k : Kept) (v : States) → AreWhole (rate_for v) v → AreBelow v
-    → AllLeadOn (profile_of deck v) (Touches (rate_for v) k) (λ n. n) v (states_touched k v)
+pub touch_leads : (deck : Option Deck) (k : Kept) (v : States) → AreWhole (states_rate v) v → AreBelow v
+    → AllLeadOn (profile_of deck v) (Touches (states_rate v) k) (λ n. n) v (states_touched k v)
 touch_leads deck k v whole below =
-    let rate : Rate = rate_for v in let w : States = states_touched k v in
+    let rate : Rate = states_rate v in let w : States = states_touched k v in
     let off = halves_lead rate k v.off whole.off below.off in let on = on_leads rate k v.on whole.on below.on in
-    let same : rate_for w ≡ rate = halves_rate rate (halves_touched k v.off) off.whole in
+    let same : states_rate w ≡ rate = whole_rate rate (halves_touched k v.off) off.whole in
     record {
       reached = by_panel (Touches rate k) (λ s t w. w.panel) v w (off.reached false)
           (subst (λ r. AreReached (InHalves true (on_halves rate v.on)) (Touches rate k) (InHalves true (on_halves r w.on))) (sym same) (on.reached true));

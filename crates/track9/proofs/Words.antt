@@ -44,15 +44,15 @@ pub use Rattle.track9.specs.Working.Deck.{Register, RegistersSet, RegOut, Reset,
 pub use Rattle.track9.specs.Working.Deck.{time_of, Times, Tracked, Halves, way, with_command, with_entry, with_one, with_time}
 unfoldable pub use Rattle.track9.specs.Working.Deck.{span_count}
 pub use Rattle.track9.specs.Working.Entries.{agreeing, all_entries, is_nil, no_entries, set_entries, some_entry}
-pub use Rattle.track9.specs.Working.Knowing.{goals_in, join_options, joined_known, known_fact, KnowsOf, PartKnows, shown_in, HalvesKnow}
+pub use Rattle.track9.specs.Working.Knowing.{states_goals, join_options, joined_known, known_fact, KnowsOf, PartKnows, states_shown, HalvesKnow}
 pub use Rattle.track9.specs.Working.Pairs.{all_pairs, by_goal, ten_of, drifted, drifted_with, goal_if_shown, goals_of, all_shown, gone, gone_with, halted, joined, kept_goal, masked, pairs_of, shown_if}
 pub use Rattle.track9.specs.Working.Pairs.{some_pair}
 pub use Rattle.track9.specs.Working.Parts.{all_states, changed_entries, changed_part, drifted_part, forgotten_part, gone_pairs, gone_part, HasState, kept_or_gone, kept_or_gone_part}
-pub use Rattle.track9.specs.Working.Parts.{part_remains, masked_part, no_states, put_settled, rate_of, reported_part, sensed_part, set_where, settled, status_part, where_remains, Whole, with_entries}
+pub use Rattle.track9.specs.Working.Parts.{part_remains, masked_part, no_states, put_settled, part_rate, reported_part, sensed_part, set_where, settled, status_part, where_remains, Whole, with_entries}
 pub use Rattle.track9.specs.Working.Parts.{with_pairs}
 pub use Rattle.track9.specs.Working.States.{after_panel, all_drifted, all_forgotten, all_or_none, AllLeadOn, AreBelow, AreFew, AreWhole, counted, counts_after, DoesOrNot, DriftsAndGoes, effect_taken}
 pub use Rattle.track9.specs.Working.States.{either_panel, first_on, first_states, Follows, FollowsDrift, hands_by, hands_of, HasEffect, InHalves, remains_with_panel_on, is_wide, AreTracked}
-pub use Rattle.track9.specs.Working.States.{LeadsOn, map_halves, on_halves, motion_forgotten, registers_forgotten, panel_passed, part_of, profile_of, rate_for, rate_in, states_remain, halves_remain, switched, Taken, StepOrPass, halves_changed, halves_drifted, halves_gone, untouched, halves_kept_or_gone}
+pub use Rattle.track9.specs.Working.States.{LeadsOn, map_halves, on_halves, motion_forgotten, registers_forgotten, panel_passed, part_of, profile_of, states_rate, halves_rate, states_remain, halves_remain, switched, Taken, StepOrPass, halves_changed, halves_drifted, halves_gone, untouched, halves_kept_or_gone}
 pub use Rattle.track9.specs.Following.{FollowsFrom, KeepsEnds, Leads, LeadsFrom}
 pub use Rattle.track9.specs.Start.{StartsFrom}
 pub use Rattle.track9.specs.Working.Starts.{entries_known, modes_known, part_from, part_known, states_from, halves_from}

@@ -11,7 +11,7 @@ ghost use Rattle.sets25.specs.Times.{BelowDay, span_count};
 ghost use Rattle.track9.specs.Frugal.{is_frugal_effect};
 ghost use Rattle.track9.specs.Tracker.{entries_of, in_local};
 ghost use Rattle.track9.specs.Working.Starts.{part_from, halves_from};
-ghost use Rattle.track9.specs.Working.States.{HalvesBelow, HalvesWhole, all_forgotten, all_or_none, motion_forgotten, rate_in, registers_forgotten, halves_remain, halves_changed, halves_drifted, halves_forgotten, halves_gone, halves_kept_or_gone, halves_sensed, halves_status};
+ghost use Rattle.track9.specs.Working.States.{HalvesBelow, HalvesWhole, all_forgotten, all_or_none, motion_forgotten, halves_rate, registers_forgotten, halves_remain, halves_changed, halves_drifted, halves_forgotten, halves_gone, halves_kept_or_gone, halves_sensed, halves_status};
 
 use crate::part::Part;
 use crate::pattern::is_wanted;
@@ -83,7 +83,7 @@ impl<S: TimeSet> Halves<S> {
 
     /// The rate whose times they have.
     pub(crate) fn rate(&self) -> Rate
-        ensures { result ≡ rate_in self.now }
+        ensures { result ≡ halves_rate self.now }
     {
         self.remote.rate()
     }
@@ -182,7 +182,7 @@ impl<S: TimeSet> Halves<S> {
         register: Register,
         time: &Option<TimeCode>,
     ) -> Result<(), AllocError>
-        requires { HalvesWhole (rate_in self.old) self.old }
+        requires { HalvesWhole (halves_rate self.old) self.old }
         ensures ok { OnOk result (self.new ≡ halves_sensed register time.now self.old) }
         ensures err { OnErr result (self.new ≡ self.old) }
     {

@@ -6,7 +6,7 @@ ghost use Rattle.track9.specs.Working.Entries.{agreeing};
 ghost use Rattle.track9.specs.Working.Knowing.{PartKnows};
 ghost use Rattle.track9.specs.Working.Pairs.{all_pairs};
 ghost use Rattle.track9.specs.Working.Starts.{part_known};
-ghost use Rattle.track9.specs.Working.Parts.{Whole, all_states, aside, changed_entries, changed_part, drifted_part, forgotten_part, gone_part, kept_or_gone_part, part_remains, no_states, put_settled, rate_of, reported_part, set_part, settled, status_part, where_remains, with_entries, with_pairs};
+ghost use Rattle.track9.specs.Working.Parts.{Whole, all_states, aside, changed_entries, changed_part, drifted_part, forgotten_part, gone_part, kept_or_gone_part, part_remains, no_states, put_settled, part_rate, reported_part, set_part, settled, status_part, where_remains, with_entries, with_pairs};
 ghost use Rattle.track9.specs.Working.Touched.{touched_part};
 ghost use Rattle.deck9.specs.declared.state.Register.{Register as ARegister};
 ghost use Rattle.tc25.specs.declared.rate.Rate.{Rate as ARate};
@@ -100,7 +100,7 @@ impl<S: TimeSet> Part<S> {
 
     /// The rate whose times it has.
     pub(crate) fn rate(&self) -> Rate
-        ensures { result ≡ rate_of self.now }
+        ensures { result ≡ part_rate self.now }
     {
         self.ins.rate()
     }

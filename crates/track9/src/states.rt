@@ -9,7 +9,7 @@ ghost use Rattle.std.specs.Prelude.{◌≡◌, IfOk, IsOk, IsTrue, OnErr, OnOk, 
 ghost use Rattle.sets25.specs.Times.{span_count};
 ghost use Rattle.track9.specs.Tracker.{entries_of};
 ghost use Rattle.track9.specs.Working.Starts.{states_from};
-ghost use Rattle.track9.specs.Working.States.{AreBelow, AreWhole, Follows, FollowsDrift, Taken, after_panel, all_drifted, all_or_none, effect_taken, either_panel, first_states, hands_of, is_frugal_taken, remains_with_panel_on, is_wide, panel_passed, part_of, profile_of, rate_for, states_remain};
+ghost use Rattle.track9.specs.Working.States.{AreBelow, AreWhole, Follows, FollowsDrift, Taken, after_panel, all_drifted, all_or_none, effect_taken, either_panel, first_states, hands_of, is_frugal_taken, remains_with_panel_on, is_wide, panel_passed, part_of, profile_of, states_rate, states_remain};
 
 use crate::halves::Halves;
 use crate::start::Start;
@@ -122,7 +122,7 @@ impl<S: TimeSet> States<S> {
 
     /// The rate whose times they have.
     pub(crate) fn rate(&self) -> Rate
-        ensures { result ≡ rate_for self.now }
+        ensures { result ≡ states_rate self.now }
     {
         self.off.rate()
     }
@@ -154,7 +154,7 @@ impl<S: TimeSet> States<S> {
         command: &Command,
         reply: Option<&Block>,
     ) -> Result<bool, AllocError>
-        requires { AreWhole (rate_for self.old) self.old }
+        requires { AreWhole (states_rate self.old) self.old }
         ensures ok { OnOk result (Follows (profile_of deck.now self.old) command.now (option_map (λ b. b.now) reply.entry) self.old self.new) }
         ensures some { IfOk result (λ b. b ≡ states_remain self.new) }
         ensures err { OnErr result (self.new ≡ self.old) }
@@ -177,7 +177,7 @@ impl<S: TimeSet> States<S> {
         command: &Command,
         reply: Option<&Block>,
     ) -> Result<(), AllocError>
-        requires whole { AreWhole (rate_for self.old) self.old }
+        requires whole { AreWhole (states_rate self.old) self.old }
         requires hands { hands_of self.old ≡ Hands.Allowed }
         ensures ok { OnOk result (Follows (profile_of deck.now self.old) command.now (option_map (λ b. b.now) reply.entry) self.old self.new) }
         ensures err { OnErr result (self.new ≡ self.old) }
@@ -195,7 +195,7 @@ impl<S: TimeSet> States<S> {
 
     /// The states after a drift alone. Where memory is refused nothing has changed.
     pub(crate) fn drift(&mut self, alloc: Global, deck: &DeckRef) -> Result<(), AllocError>
-        requires { AreWhole (rate_for self.old) self.old }
+        requires { AreWhole (states_rate self.old) self.old }
         ensures ok { OnOk result (FollowsDrift (profile_of deck.now self.old) self.old self.new) }
         ensures err { OnErr result (self.new ≡ self.old) }
         ensures frugal { hands_of self.old ≡ Hands.None → IsOk result }
@@ -226,7 +226,7 @@ impl<S: TimeSet> States<S> {
 
     /// What a drift leaves with the panel on: every state, if there was any.
     fn drifted_on(&self, alloc: Global) -> Result<Halves<S>, AllocError>
-        ensures { IfOk result (λ h. h ≡ all_or_none (rate_for self.now) (remains_with_panel_on self.now)) }
+        ensures { IfOk result (λ h. h ≡ all_or_none (states_rate self.now) (remains_with_panel_on self.now)) }
     {
         Halves::all_or_none(alloc, self.rate(), self.remains_with_panel_on())
     }
@@ -240,7 +240,7 @@ impl<S: TimeSet> States<S> {
         command: &Command,
         reply: Option<&Block>,
     ) -> Result<(), AllocError>
-        requires whole { AreWhole (rate_for self.old) self.old }
+        requires whole { AreWhole (states_rate self.old) self.old }
         requires hands { hands_of self.old ≡ Hands.Allowed }
         requires narrow { is_wide (effect_taken deck.now command.now (option_map (λ b. b.now) reply)) ≡ false }
         ensures ok { OnOk result (Follows (profile_of deck.now self.old) command.now (option_map (λ b. b.now) reply.entry) self.old self.new) }
@@ -268,7 +268,7 @@ impl<S: TimeSet> States<S> {
         command: &Command,
         reply: Option<&Block>,
     ) -> Result<Halves<S>, AllocError>
-        ensures { IfOk result (Taken deck.now (rate_for self.now) command.now (option_map (λ b. b.now) reply.entry) (all_or_none (rate_for self.now) (remains_with_panel_on self.now))) }
+        ensures { IfOk result (Taken deck.now (states_rate self.now) command.now (option_map (λ b. b.now) reply.entry) (all_or_none (states_rate self.now) (remains_with_panel_on self.now))) }
     {
         let mut on = self.drifted_on(alloc)?;
         match on.take(alloc, deck, command, reply) {
@@ -354,7 +354,7 @@ impl<S: TimeSet> States<S> {
 
     /// Everything is forgotten, the panel too.
     fn forget_all(&mut self, alloc: Global) -> Result<(), AllocError>
-        ensures ok { OnOk result (self.new ≡ (if states_remain self.old then first_states (rate_for self.old) Hands.Allowed else self.old)) }
+        ensures ok { OnOk result (self.new ≡ (if states_remain self.old then first_states (states_rate self.old) Hands.Allowed else self.old)) }
         ensures err { OnErr result (self.new ≡ self.old) }
     {
         if self.remains() {

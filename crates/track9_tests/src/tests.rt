@@ -81,13 +81,18 @@ fn observe_block<S: TimeSet>(
 ) -> Result<bool, AllocError> {
     let is_allowed = (command.fits(reply), reply_time_valid(command, reply));
     same(rt, is_allowed, (true, true), (command, reply));
-    tracker.take(&Exchange {
+    tracker.take(&complete(command, block, reply))
+}
+
+/// The exchange of a command with this block and this reply.
+fn complete(command: &Command, block: Block, reply: &Block) -> Exchange {
+    Exchange {
         command: *command,
         block,
         reply: reply.copy(),
         time_us: 0,
         delay_us: 0,
-    })
+    }
 }
 
 /// Takes an exchange.

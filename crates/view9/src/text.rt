@@ -100,11 +100,6 @@ impl Text {
         self.bytes.is_empty()
     }
 
-    /// What it is made with.
-    pub fn alloc(&self) -> Global {
-        *self.bytes.allocator()
-    }
-
     /// The bytes; an error where memory was refused for one of them.
     pub fn whole(&self) -> Result<&[u8], AllocError>
         ensures whole { IfOk result (λ text. self.now ≡ Some text.now) }

@@ -17,11 +17,11 @@ halves_goals h = either (goals_of h.remote.pairs) (goals_of h.local.pairs)
 abbrev pub halves_shown : Halves → ModeSet
 halves_shown h = either (all_shown h.remote.pairs) (all_shown h.local.pairs)
 
-abbrev pub goals_in : States → ModeSet
-goals_in v = either (halves_goals (halves_of v false)) (halves_goals (halves_of v true))
+abbrev pub states_goals : States → ModeSet
+states_goals v = either (halves_goals (halves_of v false)) (halves_goals (halves_of v true))
 
-abbrev pub shown_in : States → ModeSet
-shown_in v = either (halves_shown (halves_of v false)) (halves_shown (halves_of v true))
+abbrev pub states_shown : States → ModeSet
+states_shown v = either (halves_shown (halves_of v false)) (halves_shown (halves_of v true))
 
 -- ---- facts
 

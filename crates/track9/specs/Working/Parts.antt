@@ -14,8 +14,8 @@ abbrev pub all_states : Rate → Part
 all_states rate = record { pairs = all_pairs; ins = all_entries rate; outs = all_entries rate; ains = all_entries rate; aouts = all_entries rate }
 
 -- the rate whose times a part has
-abbrev pub rate_of : Part → Rate
-rate_of p = p.ins.rate
+abbrev pub part_rate : Part → Rate
+part_rate p = p.ins.rate
 
 -- there is a state, by the pairs alone
 abbrev pub part_remains : Part → Bool
@@ -46,7 +46,7 @@ where_remains f p = if part_remains p then f p else p
 
 -- no state, where a factor has nothing
 abbrev pub settled : Part → Part
-settled p = if part_remains p && some_entry p.ins && some_entry p.outs && some_entry p.ains && some_entry p.aouts then p else no_states (rate_of p)
+settled p = if part_remains p && some_entry p.ins && some_entry p.outs && some_entry p.ains && some_entry p.aouts then p else no_states (part_rate p)
 
 -- ---- what exchanges do
 
@@ -117,8 +117,8 @@ reported_part status p = settled (set_where status.registers (masked_part status
 
 -- those with the reported LOCAL too, where it is this for each
 abbrev pub status_part : Bool → Status → Part → Part
-status_part local status p = if is_as_wanted status.local local then reported_part status p else no_states (rate_of p)
+status_part local status p = if is_as_wanted status.local local then reported_part status p else no_states (part_rate p)
 
 -- the registers are forgotten
 abbrev pub forgotten_part : Part → Part
-forgotten_part p = with_pairs p.pairs (all_states (rate_of p))
+forgotten_part p = with_pairs p.pairs (all_states (part_rate p))

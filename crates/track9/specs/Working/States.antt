@@ -10,7 +10,7 @@ use Rattle.deck9.specs.declared.state.Hands.TheVariants as hands
 use Rattle.track9.specs.Frugal.{is_frugal, is_frugal_effect}
 use Rattle.track9.specs.Working.Entries.{agreeing}
 use Rattle.track9.specs.Working.Pairs.{all_pairs}
-use Rattle.track9.specs.Working.Parts.{Whole, all_states, aside, changed_entries, changed_part, drifted_part, forgotten_part, gone_part, kept_or_gone_part, part_remains, no_states, put_settled, rate_of, status_part, where_remains, with_pairs}
+use Rattle.track9.specs.Working.Parts.{Whole, all_states, aside, changed_entries, changed_part, drifted_part, forgotten_part, gone_part, kept_or_gone_part, part_remains, no_states, put_settled, part_rate, status_part, where_remains, with_pairs}
 
 -- ---- the states with one value of the panel
 
@@ -20,8 +20,8 @@ all_or_none rate true = record { remote = all_states rate; local = all_states ra
 all_or_none rate false = record { remote = no_states rate; local = no_states rate }
 
 -- the rate whose times the states have
-abbrev pub rate_in : Halves → Rate
-rate_in h = rate_of h.remote
+abbrev pub halves_rate : Halves → Rate
+halves_rate h = part_rate h.remote
 
 -- there is a state
 abbrev pub halves_remain : Halves → Bool
@@ -83,7 +83,7 @@ abbrev pub registers_forgotten : Halves → Halves
 registers_forgotten h = map_halves (λ local. where_remains forgotten_part) h
 
 abbrev pub all_forgotten : Halves → Halves
-all_forgotten h = if halves_remain h then all_or_none (rate_in h) true else h
+all_forgotten h = if halves_remain h then all_or_none (halves_rate h) true else h
 
 abbrev pub halves_forgotten : Forgotten → Halves → Halves
 halves_forgotten forgotten.Nothing h = h
@@ -154,11 +154,11 @@ abbrev pub hands_of : States → Hands
 hands_of v = hands_by v.on
 
 -- the rate whose times they have
-abbrev pub rate_for : States → Rate
-rate_for v = rate_in v.off
+abbrev pub states_rate : States → Rate
+states_rate v = halves_rate v.off
 
 abbrev pub profile_of : Option Deck → States → Profile
-profile_of deck v = record { rate = rate_for v; hands = hands_of v; deck = deck }
+profile_of deck v = record { rate = states_rate v; hands = hands_of v; deck = deck }
 
 -- those with the panel on
 abbrev pub on_halves : Rate → Option Halves → Halves
@@ -168,7 +168,7 @@ on_halves rate (Some h) = h
 -- those with this value of the panel
 abbrev pub halves_of : States → Bool → Halves
 halves_of v false = v.off
-halves_of v true = on_halves (rate_for v) v.on
+halves_of v true = on_halves (states_rate v) v.on
 
 -- the part of the states with these values of local and of panel
 abbrev pub part_of : States → Bool → Bool → Part
@@ -181,14 +181,14 @@ pub record AreWhole (rate : Rate) (v : States) : Type 0 where
 
 pub record AreBelow (v : States) : Type 0 where
   pub off : HalvesBelow v.off
-  pub on : HalvesBelow (on_halves (rate_for v) v.on)
+  pub on : HalvesBelow (on_halves (states_rate v) v.on)
 
 abbrev pub AreFew : Presets → States → Type 0
 AreFew n v = (pn : Bool) → HalvesFew n (halves_of v pn)
 
 -- there is a state with the panel on
 abbrev pub remains_with_panel_on : States → Bool
-remains_with_panel_on v = halves_remain (on_halves (rate_for v) v.on)
+remains_with_panel_on v = halves_remain (on_halves (states_rate v) v.on)
 
 -- there is a state
 abbrev pub states_remain : States → Bool
@@ -210,7 +210,7 @@ is_wide _ = false
 
 -- the states after a drift, put together whatever the panel: where it may have been on, a hand may have done anything
 abbrev pub either_panel : Option Deck → States → Halves
-either_panel deck v = if remains_with_panel_on v then all_or_none (rate_for v) true else halves_drifted deck v.off
+either_panel deck v = if remains_with_panel_on v then all_or_none (states_rate v) true else halves_drifted deck v.off
 
 -- the panel is switched on or off, after a drift
 abbrev pub switched : Rate → Bool → Halves → States
@@ -218,11 +218,11 @@ switched rate true h = record { off = all_or_none rate false; on = Some h }
 switched rate false h = record { off = h; on = Some (all_or_none rate false) }
 
 abbrev pub after_panel : Option Deck → Bool → States → States
-after_panel deck on v = switched (rate_for v) on (either_panel deck v)
+after_panel deck on v = switched (states_rate v) on (either_panel deck v)
 
 -- the states after a drift
 abbrev pub all_drifted : Option Deck → States → States
-all_drifted deck v = record { off = halves_drifted deck v.off; on = Some (all_or_none (rate_for v) (remains_with_panel_on v)) }
+all_drifted deck v = record { off = halves_drifted deck v.off; on = Some (all_or_none (states_rate v) (remains_with_panel_on v)) }
 
 -- the panel is switched on or off, after a drift, or stays: what it may be switched to has all states, and the rest is as it was
 abbrev pub panel_passed : Option Deck → Bool → States → States
@@ -231,7 +231,7 @@ panel_passed deck false v = record (all_drifted deck v) { off = either_panel dec
 
 -- what holds inside a tracker
 pub record AreTracked (n : Presets) (v : States) : Type 0 where
-  pub whole : AreWhole (rate_for v) v
+  pub whole : AreWhole (states_rate v) v
   pub few : AreFew n v
 
 -- the states after what leads from a state to others

@@ -5,7 +5,7 @@ ghost use Rattle.deck9.specs.Effect.{effect_of};
 ghost use Rattle.deck9.specs.Status.{status_of};
 ghost use Rattle.tc25.specs.Day.{time_of};
 ghost use Rattle.track9.specs.Frugal.{is_frugal, is_frugal_effect};
-ghost use Rattle.track9.specs.Working.States.{HasEffect, Taken, HalvesWhole, is_frugal_taken, rate_in, halves_remain, halves_drifted, halves_sensed, halves_status};
+ghost use Rattle.track9.specs.Working.States.{HasEffect, Taken, HalvesWhole, is_frugal_taken, halves_rate, halves_remain, halves_drifted, halves_sensed, halves_status};
 
 use crate::halves::Halves;
 use block9::{Block, Command};
@@ -24,8 +24,8 @@ impl<S: TimeSet> Halves<S> {
         command: &Command,
         reply: Option<&Block>,
     ) -> Result<bool, AllocError>
-        requires { HalvesWhole (rate_in self.old) self.old }
-        ensures ok { OnOk result (Taken deck.now (rate_in self.old) command.now (option_map (λ b. b.now) reply.entry) self.old self.new) }
+        requires { HalvesWhole (halves_rate self.old) self.old }
+        ensures ok { OnOk result (Taken deck.now (halves_rate self.old) command.now (option_map (λ b. b.now) reply.entry) self.old self.new) }
         ensures some { IfOk result (λ b. b ≡ halves_remain self.new) }
         ensures err { OnErr result (self.new ≡ self.old) }
         ensures frugal { IsTrue (is_frugal_taken deck.now command.now (option_map (λ b. b.now) reply.entry)) → IsOk result }
@@ -45,8 +45,8 @@ impl<S: TimeSet> Halves<S> {
         command: &Command,
         reply: &Block,
     ) -> Result<bool, AllocError>
-        requires { HalvesWhole (rate_in self.old) self.old }
-        ensures ok { OnOk result (Taken deck.now (rate_in self.old) command.now (Some reply.now) self.old self.new) }
+        requires { HalvesWhole (halves_rate self.old) self.old }
+        ensures ok { OnOk result (Taken deck.now (halves_rate self.old) command.now (Some reply.now) self.old self.new) }
         ensures some { IfOk result (λ b. b ≡ halves_remain self.new) }
         ensures err { OnErr result (self.new ≡ self.old) }
         ensures frugal { IsTrue (is_frugal deck.now command.now reply.now) → IsOk result }
@@ -63,8 +63,8 @@ impl<S: TimeSet> Halves<S> {
 
     /// The states after a command whose reply is not known. It answers whether there is one.
     fn pass(&mut self, alloc: Global, deck: &DeckRef, command: &Command) -> Result<bool, AllocError>
-        requires { HalvesWhole (rate_in self.old) self.old }
-        ensures ok { OnOk result (Taken deck.now (rate_in self.old) command.now None self.old self.new) }
+        requires { HalvesWhole (halves_rate self.old) self.old }
+        ensures ok { OnOk result (Taken deck.now (halves_rate self.old) command.now None self.old self.new) }
         ensures some { IfOk result (λ b. b ≡ halves_remain self.new) }
         ensures err { OnErr result (self.new ≡ self.old) }
         ensures frugal { IsTrue (is_frugal_effect (effect_of deck.now command.now)) → IsOk result }
@@ -82,8 +82,8 @@ impl<S: TimeSet> Halves<S> {
         register: Register,
         reply: &Block,
     ) -> Result<bool, AllocError>
-        requires { HalvesWhole (rate_in self.old) self.old }
-        ensures ok { OnOk result (self.new ≡ halves_drifted deck.now (halves_sensed register (time_of (rate_in self.old) reply.now.bytes.items) self.old)) }
+        requires { HalvesWhole (halves_rate self.old) self.old }
+        ensures ok { OnOk result (self.new ≡ halves_drifted deck.now (halves_sensed register (time_of (halves_rate self.old) reply.now.bytes.items) self.old)) }
         ensures some { IfOk result (λ b. b ≡ halves_remain self.new) }
         ensures err { OnErr result (self.new ≡ self.old) }
     {
@@ -113,8 +113,8 @@ impl<S: TimeSet> Halves<S> {
         may_stay: bool,
         command: &Command,
     ) -> Result<bool, AllocError>
-        requires { HalvesWhole (rate_in self.old) self.old }
-        ensures ok { OnOk result (HasEffect deck.now (rate_in self.old) may_stay (effect_of deck.now command.now) (halves_drifted deck.now self.old) self.new) }
+        requires { HalvesWhole (halves_rate self.old) self.old }
+        ensures ok { OnOk result (HasEffect deck.now (halves_rate self.old) may_stay (effect_of deck.now command.now) (halves_drifted deck.now self.old) self.new) }
         ensures some { IfOk result (λ b. b ≡ halves_remain self.new) }
         ensures err { OnErr result (self.new ≡ self.old) }
         ensures frugal { IsTrue (is_frugal_effect (effect_of deck.now command.now)) → IsOk result }

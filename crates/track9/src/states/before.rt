@@ -9,7 +9,7 @@ ghost use Rattle.deck9.specs.Step.{Goes};
 ghost use Rattle.track9.specs.Tracker.{Possible};
 ghost use Rattle.track9.specs.Working.Pattern.{ComesTo, Is, IsIgnored, IsPattern, LeadsTo, RunsTo};
 ghost use Rattle.track9.specs.Working.Parts.{HasState};
-ghost use Rattle.track9.specs.Working.States.{AreWhole, InHalves, remains_with_panel_on, halves_of, profile_of, rate_for};
+ghost use Rattle.track9.specs.Working.States.{AreWhole, InHalves, remains_with_panel_on, halves_of, profile_of, states_rate};
 ghost use Rattle.deck9.specs.declared.state.State.{State as AState};
 
 use crate::halves::Halves;
@@ -28,7 +28,7 @@ impl<S: TimeSet> States<S> {
         exchange: &Exchange,
         target: &State,
     ) -> Option<State>
-        requires { AreWhole (rate_for self.now) self.now }
+        requires { AreWhole (states_rate self.now) self.now }
         ensures some { IfSome result (λ s. Possible self.now s × Goes (profile_of deck.now self.now) exchange.now s target.now) }
         ensures none { IfNone result (¬ ((s : AState) × Possible self.now s × Goes (profile_of deck.now self.now) exchange.now s target.now)) }
     {
@@ -49,8 +49,8 @@ impl<S: TimeSet> States<S> {
 
     /// A state from which a drift, and then the command's effect or nothing, lead to one of those that are wanted.
     fn before_step(&self, deck: &DeckRef, command: &Command, wanted: &Pattern) -> Option<State>
-        requires whole { AreWhole (rate_for self.now) self.now }
-        requires wanted { IsPattern (rate_for self.now) wanted.now }
+        requires whole { AreWhole (states_rate self.now) self.now }
+        requires wanted { IsPattern (states_rate self.now) wanted.now }
         ensures some { IfSome result (λ s. Possible self.now s × ComesTo (profile_of deck.now self.now) command.now wanted.now s) }
         ensures none { IfNone result (¬ ((s : AState) × Possible self.now s × ComesTo (profile_of deck.now self.now) command.now wanted.now s)) }
     {
@@ -63,14 +63,9 @@ impl<S: TimeSet> States<S> {
     }
 
     /// A state from which a drift leads to one of those that are wanted, in LOCAL, where a deck in LOCAL may ignore the command.
-    fn ignored_origin(
-        &self,
-        deck: &DeckRef,
-        command: &Command,
-        wanted: &Pattern,
-    ) -> Option<State>
-        requires whole { AreWhole (rate_for self.now) self.now }
-        requires wanted { IsPattern (rate_for self.now) wanted.now }
+    fn ignored_origin(&self, deck: &DeckRef, command: &Command, wanted: &Pattern) -> Option<State>
+        requires whole { AreWhole (states_rate self.now) self.now }
+        requires wanted { IsPattern (states_rate self.now) wanted.now }
         ensures some { IfSome result (λ s. Possible self.now s × IsIgnored command.now wanted.now × LeadsTo (profile_of deck.now self.now) (record wanted.now { local = Some true }) s) }
         ensures none { IfNone result (¬ ((s : AState) × Possible self.now s × IsIgnored command.now wanted.now × LeadsTo (profile_of deck.now self.now) (record wanted.now { local = Some true }) s)) }
     {
@@ -84,7 +79,7 @@ impl<S: TimeSet> States<S> {
 
     /// A state from which a drift leads to the target: None exactly where there is none. Takes no memory.
     pub(crate) fn before_drift(&self, deck: &DeckRef, target: &State) -> Option<State>
-        requires { AreWhole (rate_for self.now) self.now }
+        requires { AreWhole (states_rate self.now) self.now }
         ensures some { IfSome result (λ s. Possible self.now s × Drift (profile_of deck.now self.now) s target.now) }
         ensures none { IfNone result (¬ ((s : AState) × Possible self.now s × Drift (profile_of deck.now self.now) s target.now)) }
     {
@@ -97,8 +92,8 @@ impl<S: TimeSet> States<S> {
 
     /// A state from which a drift leads to one of those that are wanted: None exactly where there is none.
     fn origin(&self, deck: &DeckRef, wanted: &Pattern) -> Option<State>
-        requires whole { AreWhole (rate_for self.now) self.now }
-        requires wanted { IsPattern (rate_for self.now) wanted.now }
+        requires whole { AreWhole (states_rate self.now) self.now }
+        requires wanted { IsPattern (states_rate self.now) wanted.now }
         ensures some { IfSome result (λ s. Possible self.now s × LeadsTo (profile_of deck.now self.now) wanted.now s) }
         ensures none { IfNone result (¬ ((s : AState) × Possible self.now s × LeadsTo (profile_of deck.now self.now) wanted.now s)) }
     {
@@ -110,7 +105,7 @@ impl<S: TimeSet> States<S> {
 
     /// Some state with the panel on, where one with the panel on is wanted: a hand makes any such state of it.
     fn panel_origin(&self, wanted: &Pattern) -> Option<State>
-        requires { AreWhole (rate_for self.now) self.now }
+        requires { AreWhole (states_rate self.now) self.now }
         ensures some { IfSome result (λ s. InHalves true (halves_of self.now true) s × Is wanted.now.panel true) }
         ensures none { IfNone result (Is wanted.now.panel true → remains_with_panel_on self.now ≡ false) }
     {

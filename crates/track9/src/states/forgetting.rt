@@ -1,6 +1,6 @@
 //! What is forgotten of a set of states, without a drift.
 ghost use Rattle.std.specs.Prelude.{◌≡◌, ◌≢◌, IfOk, OnErr, OnOk, true};
-ghost use Rattle.track9.specs.Working.States.{AreForgotten, AreWhole, halves_forgotten, halves_of, hands_of, rate_for};
+ghost use Rattle.track9.specs.Working.States.{AreForgotten, AreWhole, halves_forgotten, halves_of, hands_of, states_rate};
 
 use crate::halves::Halves;
 use crate::states::States;
@@ -12,7 +12,7 @@ impl<S: TimeSet> States<S> {
     /// The states after something is forgotten: where hands are allowed and it is everything, the panel too. Where memory is
     /// refused nothing has changed.
     pub(crate) fn forget(&mut self, alloc: Global, forgotten: Forgotten) -> Result<(), AllocError>
-        requires { AreWhole (rate_for self.old) self.old }
+        requires { AreWhole (states_rate self.old) self.old }
         ensures ok { OnOk result (AreForgotten forgotten self.old self.new) }
         ensures err { OnErr result (self.new ≡ self.old) }
     {
@@ -24,7 +24,7 @@ impl<S: TimeSet> States<S> {
 
     /// The states after something is forgotten, where hands are allowed.
     fn forget_by_hand(&mut self, alloc: Global, forgotten: Forgotten) -> Result<(), AllocError>
-        requires whole { AreWhole (rate_for self.old) self.old }
+        requires whole { AreWhole (states_rate self.old) self.old }
         requires hands { hands_of self.old ≡ Hands.Allowed }
         ensures ok { OnOk result (AreForgotten forgotten self.old self.new) }
         ensures err { OnErr result (self.new ≡ self.old) }
@@ -38,7 +38,7 @@ impl<S: TimeSet> States<S> {
 
     /// The states after something but everything is forgotten, which leaves the panel as it is.
     fn forget_both(&mut self, alloc: Global, forgotten: Forgotten) -> Result<(), AllocError>
-        requires whole { AreWhole (rate_for self.old) self.old }
+        requires whole { AreWhole (states_rate self.old) self.old }
         requires hands { hands_of self.old ≡ Hands.Allowed }
         requires some { forgotten ≢ Forgotten.Everything }
         ensures ok { OnOk result (AreForgotten forgotten self.old self.new) }

@@ -2,9 +2,9 @@
 ghost use Rattle.std.specs.Prelude.{◌≡◌, ◌||◌, false, true};
 ghost use Rattle.deck9.specs.Knowledge.{IsKnowledge, IsKnown, IsKnownEntry};
 ghost use Rattle.track9.specs.Tracker.{Possible};
-ghost use Rattle.track9.specs.Working.Knowing.{HalvesKnow, goals_in, join_options, joined_known, known_fact, shown_in, halves_goals, halves_shown};
+ghost use Rattle.track9.specs.Working.Knowing.{HalvesKnow, states_goals, join_options, joined_known, known_fact, states_shown, halves_goals, halves_shown};
 ghost use Rattle.track9.specs.Working.Parts.{part_remains};
-ghost use Rattle.track9.specs.Working.States.{AreWhole, HalvesWhole, part_of, states_remain, halves_of, rate_for, rate_in};
+ghost use Rattle.track9.specs.Working.States.{AreWhole, HalvesWhole, part_of, states_remain, halves_of, states_rate, halves_rate};
 ghost use Rattle.deck9.specs.declared.state.State.{State as AState};
 
 use crate::halves::Halves;
@@ -15,7 +15,7 @@ use sets25::TimeSet;
 impl<S: TimeSet> States<S> {
     /// What all states agree on, field by field. There is a state.
     pub(crate) fn knowledge(&self) -> Knowledge
-        requires whole { AreWhole (rate_for self.now) self.now }
+        requires whole { AreWhole (states_rate self.now) self.now }
         requires some { states_remain self.now ≡ true }
         ensures { IsKnowledge (Possible self.now) result }
     {
@@ -33,7 +33,7 @@ impl<S: TimeSet> States<S> {
 
     /// The goal, as far as all states agree. There is a state.
     fn known_goal(&self) -> Known<Mode>
-        requires whole { AreWhole (rate_for self.now) self.now }
+        requires whole { AreWhole (states_rate self.now) self.now }
         requires some { states_remain self.now ≡ true }
         ensures { IsKnown (Possible self.now) (λ (s : AState). s.goal) result }
     {
@@ -42,7 +42,7 @@ impl<S: TimeSet> States<S> {
 
     /// The shown mode, as far as all states agree. There is a state.
     fn known_shown(&self) -> Known<Mode>
-        requires whole { AreWhole (rate_for self.now) self.now }
+        requires whole { AreWhole (states_rate self.now) self.now }
         requires some { states_remain self.now ≡ true }
         ensures { IsKnown (Possible self.now) (λ (s : AState). s.shown) result }
     {
@@ -51,7 +51,7 @@ impl<S: TimeSet> States<S> {
 
     /// A register, as far as all states agree. There is a state.
     fn known_entry(&self, register: Register) -> KnownEntry
-        requires whole { AreWhole (rate_for self.now) self.now }
+        requires whole { AreWhole (states_rate self.now) self.now }
         requires some { states_remain self.now ≡ true }
         ensures { IsKnownEntry (Possible self.now) register result }
     {
@@ -66,7 +66,7 @@ impl<S: TimeSet> States<S> {
 
     /// Whether the deck is in LOCAL, as far as all states agree. There is a state.
     fn known_local(&self) -> Known<bool>
-        requires whole { AreWhole (rate_for self.now) self.now }
+        requires whole { AreWhole (states_rate self.now) self.now }
         requires some { states_remain self.now ≡ true }
         ensures { IsKnown (Possible self.now) (λ (s : AState). s.local) result }
     {
@@ -75,7 +75,7 @@ impl<S: TimeSet> States<S> {
 
     /// Whether the panel is on, as far as all states agree. There is a state.
     fn known_panel(&self) -> Known<bool>
-        requires whole { AreWhole (rate_for self.now) self.now }
+        requires whole { AreWhole (states_rate self.now) self.now }
         requires some { states_remain self.now ≡ true }
         ensures { IsKnown (Possible self.now) (λ (s : AState). s.panel) result }
     {
@@ -84,7 +84,7 @@ impl<S: TimeSet> States<S> {
 
     /// What is known of a register with the panel on: None where there is no such state.
     fn known_on(&self, register: Register) -> Option<KnownEntry>
-        requires { AreWhole (rate_for self.now) self.now }
+        requires { AreWhole (states_rate self.now) self.now }
         ensures { HalvesKnow (halves_of self.now true) register result }
     {
         match &self.on {
@@ -115,7 +115,7 @@ impl<S: TimeSet> States<S> {
 
     /// The goals of all states.
     fn goals(&self) -> ModeSet
-        ensures { result ≡ goals_in self.now }
+        ensures { result ≡ states_goals self.now }
     {
         match &self.on {
             Some(on) => self.off.goals().or(on.goals()),
@@ -125,7 +125,7 @@ impl<S: TimeSet> States<S> {
 
     /// The modes that all states show.
     pub(crate) fn shown(&self) -> ModeSet
-        ensures { result ≡ shown_in self.now }
+        ensures { result ≡ states_shown self.now }
     {
         match &self.on {
             Some(on) => self.off.shown().or(on.shown()),
@@ -137,7 +137,7 @@ impl<S: TimeSet> States<S> {
 impl<S: TimeSet> Halves<S> {
     /// What is known of a register: None where there is no state.
     fn known(&self, register: Register) -> Option<KnownEntry>
-        requires { HalvesWhole (rate_in self.now) self.now }
+        requires { HalvesWhole (halves_rate self.now) self.now }
         ensures { HalvesKnow self.now register result }
     {
         let remote = self.remote.known(register);

@@ -2,8 +2,8 @@
 ghost use Rattle.std.specs.Prelude.{◌≡◌, IfNone, IfSome, false, true};
 ghost use Rattle.track9.specs.Start.{StartsFrom};
 ghost use Rattle.track9.specs.Tracker.{Possible};
-ghost use Rattle.track9.specs.Working.Parts.{HasState, Whole, part_remains, rate_of};
-ghost use Rattle.track9.specs.Working.States.{AreWhole, InHalves, HalvesWhole, remains_with_panel_on, halves_remain, halves_of, rate_for, rate_in};
+ghost use Rattle.track9.specs.Working.Parts.{HasState, Whole, part_remains, part_rate};
+ghost use Rattle.track9.specs.Working.States.{AreWhole, InHalves, HalvesWhole, remains_with_panel_on, halves_remain, halves_of, states_rate, halves_rate};
 ghost use Rattle.deck9.specs.declared.state.State.{State as AState};
 
 use crate::halves::Halves;
@@ -17,7 +17,7 @@ use sets25::TimeSet;
 impl<S: TimeSet> States<S> {
     /// Some state, or none exactly where there is none. Takes no memory.
     pub(crate) fn member(&self) -> Option<State>
-        requires { AreWhole (rate_for self.now) self.now }
+        requires { AreWhole (states_rate self.now) self.now }
         ensures some { IfSome result (Possible self.now) }
         ensures none { IfNone result (¬ ((s : AState) × Possible self.now s)) }
     {
@@ -43,7 +43,7 @@ impl<S: TimeSet> States<S> {
 
     /// Some state with the panel on, or none exactly where there is none.
     pub(crate) fn state_on(&self) -> Option<State>
-        requires { AreWhole (rate_for self.now) self.now }
+        requires { AreWhole (states_rate self.now) self.now }
         ensures some { IfSome result (InHalves true (halves_of self.now true)) }
         ensures none { IfNone result (remains_with_panel_on self.now ≡ false) }
     {
@@ -57,7 +57,7 @@ impl<S: TimeSet> States<S> {
 impl<S: TimeSet> Halves<S> {
     /// Some state, with this value of the panel, or none exactly where there is none.
     fn state(&self, panel: bool) -> Option<State>
-        requires { HalvesWhole (rate_in self.now) self.now }
+        requires { HalvesWhole (halves_rate self.now) self.now }
         ensures some { IfSome result (InHalves panel self.now) }
         ensures none { IfNone result (halves_remain self.now ≡ false) }
     {
@@ -110,7 +110,7 @@ fn known_state_in<S: TimeSet>(
 
 /// Some state of a part, with these values of local and of panel: none where the part has none.
 fn state_in<S: TimeSet>(part: &Part<S>, local: bool, panel: bool) -> Option<State>
-    requires { Whole (rate_of part.now) part.now }
+    requires { Whole (part_rate part.now) part.now }
     ensures some { IfSome result (HasState part.now local panel) }
     ensures none { IfNone result (part_remains part.now ≡ false) }
 {
@@ -123,7 +123,7 @@ fn state_in<S: TimeSet>(part: &Part<S>, local: bool, panel: bool) -> Option<Stat
 
 /// A state of a part that has one: of the first goal, the first mode shown with it, and the first entries.
 fn first_in<S: TimeSet>(part: &Part<S>, local: bool, panel: bool) -> State
-    requires whole { Whole (rate_of part.now) part.now }
+    requires whole { Whole (part_rate part.now) part.now }
     requires live { part_remains part.now ≡ true }
     ensures { HasState part.now local panel result }
 {

@@ -152,7 +152,8 @@ fn state_before<S: TimeSet>(
     target: &State,
 ) -> Option<State> {
     let (command, reply) = exchange(rt, sent);
-    tracker.before(&command, &reply, target)
+    let block = Block::from_bytes(sent.0).expect(rt, "a block");
+    tracker.before_exchange(&complete(&command, block, &reply), target)
 }
 
 fn tell_row<S: TimeSet>(rt: &impl Abort, tracker: &Tracker<S>, row: &Row) {

@@ -1,11 +1,11 @@
-use Rattle.track9.proofs.Words.{arith, Drift, IfSome_then, IsState, profile_of, rate_for, subst, sym}
+use Rattle.track9.proofs.Words.{arith, Drift, IfSome_then, IsState, profile_of, states_rate, subst, sym}
 use Rattle.track9.proofs.states.States.before_drift.Goals as goal
 use Rattle.track9.proofs.BeforeLemmas.{fits_just, fits_self}
 use Rattle.track9.proofs.PartLemmas.{drift_state, possible_state}
 
 pub returns-then-not-is_of-clause-none : goal.returns-then-not-is_of-clause-none
 returns-then-not-is_of-clause-none g c = λ (s, there, drift).
-    let day = drift_state (profile_of c.args.deck.now c.args.self.now) s c.args.target.now (possible_state (rate_for c.args.self.now) c.args.self.now s c.requires c.below_day.ensures there) drift in
+    let day = drift_state (profile_of c.args.deck.now c.args.self.now) s c.args.target.now (possible_state (states_rate c.args.self.now) c.args.self.now s c.requires c.below_day.ensures there) drift in
     grind (arith, day, c.rate.ensures, c.is_of.ensures.1, c.if-not-is_of.true)
 
 pub origin-requires-clause-wanted : goal.origin-requires-clause-wanted

@@ -1,9 +1,9 @@
-use Rattle.track9.proofs.Words.{arith, shown_in, State}
+use Rattle.track9.proofs.Words.{arith, states_shown, State}
 use Rattle.track9.proofs.states.States.known_shown.Goals as goal
 use Rattle.track9.proofs.KnownLemmas.{has_shown, modes_known, modes_some}
 
 pub known-requires : goal.known-requires
-known-requires g c = grind (arith, modes_some c.args.self.now (λ (s : State). s.shown) (shown_in c.args.self.now) (has_shown c.args.self.now c.requires.whole))
+known-requires g c = grind (arith, modes_some c.args.self.now (λ (s : State). s.shown) (states_shown c.args.self.now) (has_shown c.args.self.now c.requires.whole))
 
 pub returns : goal.returns
 returns g c = modes_known _ _ _ c.known.result (has_shown c.args.self.now c.requires.whole) (rw c.shown.ensures at c.known.ensures)

@@ -1,13 +1,13 @@
-use Rattle.track9.proofs.Words.{Block, Command, Deck, Follows, on_ok_weaker, option_map, Option, rate_for, States}
+use Rattle.track9.proofs.Words.{Block, Command, Deck, Follows, on_ok_weaker, option_map, Option, states_rate, States}
 use Rattle.track9.proofs.Words.{hands_of, None, Some, profile_of, subst, sym, ◌∙◌, ◌≡◌}
 use Rattle.deck9.specs.declared.state.Hands.TheVariants as hands
 use Rattle.track9.proofs.states.States.take_by_hand.Goals as goal
 use Rattle.track9.proofs.PanelLemmas.{deck_of, follows_forget, follows_panel, passed_panel, touched}
 
 -- where hands are allowed
-by_hand : (deck : Option Deck) (c : Command) (reply : Option Block) (v w : States) → hands_of v ≡ hands.Allowed → Follows (touched deck (rate_for v)) c reply v w
+by_hand : (deck : Option Deck) (c : Command) (reply : Option Block) (v w : States) → hands_of v ≡ hands.Allowed → Follows (touched deck (states_rate v)) c reply v w
     → Follows (profile_of deck v) c reply v w
-by_hand deck c reply v w allowed follows = subst (λ h. Follows (deck_of deck (rate_for v) h) c reply v w) (sym allowed) follows
+by_hand deck c reply v w allowed follows = subst (λ h. Follows (deck_of deck (states_rate v) h) c reply v w) (sym allowed) follows
 
 pub returns-in-Some-clause-ok : goal.returns-in-Some-clause-ok
 returns-in-Some-clause-ok g c =

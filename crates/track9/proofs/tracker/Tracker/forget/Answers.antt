@@ -1,4 +1,4 @@
-use Rattle.track9.proofs.Words.{Possible, profile_of, rate_for}
+use Rattle.track9.proofs.Words.{Possible, profile_of, states_rate}
 use Rattle.track9.proofs.tracker.Tracker.forget.Goals as goal
 use Rattle.track9.proofs.ForgetLemmas.{remains_forgotten, tracked_forgotten}
 use Rattle.track9.proofs.PartLemmas.{possible_state}
@@ -14,7 +14,7 @@ pub returns-clause-remains : goal.returns-clause-remains
 returns-clause-remains g c =
     let v = c.self.inside.states in
     rw (← c.self.view_is) (remains_forgotten (profile_of c.self.inside.deck v) c.args.forgotten (Possible v) (Possible c.forget.new.self)
-    (λ s. possible_state (rate_for v) v s c.self.invariant.whole c.below_day.ensures) (c.in_ok-forget.ensures.ok c.self.inside.deck).reached)
+    (λ s. possible_state (states_rate v) v s c.self.invariant.whole c.below_day.ensures) (c.in_ok-forget.ensures.ok c.self.inside.deck).reached)
 
 pub returns-clause-profile : goal.returns-clause-profile
 returns-clause-profile g c = rw (← c.self.view_is) (c.in_ok-forget.ensures.ok c.self.inside.deck).profile
