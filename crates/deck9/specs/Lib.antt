@@ -1,4 +1,3 @@
-pub mod Codes
 pub mod Contradict
 pub mod Deck
 pub mod Drift

@@ -1,4 +1,5 @@
 -- What the clauses of the search for a run cite.
+pub mod Codes
 use Rattle.std.specs.Prelude.{◌≡◌, Bool, true}
 use Rattle.block9.specs.declared.exchange.Exchange.{Exchange}
 use Rattle.tc25.specs.Day.{next_frame, prev_frame}

@@ -23,7 +23,7 @@ pub struct DeckRef<'a>(pub(crate) Option<&'a Deck>);
 impl<'a> Model for DeckRef<'a> {
     ghost use Rattle.std.specs.Prelude.{Option, option_map};
     ghost use Rattle.deck9.specs.declared.deck.Deck.{Deck as ADeck};
-    ghost use Rattle.deck9.specs.Codes.{deck_codes};
+    ghost use Rattle.deck9.specs.Working.Codes.{deck_codes};
 
     ghost Value = { Option ADeck };
 

@@ -12,7 +12,7 @@ impl State {
     ghost use Rattle.deck9.specs.Effect.{with_forgotten};
 
     /// The state with what is forgotten as it is in another, and all else as it was.
-    pub fn with_forgotten(&self, forgotten: Forgotten, other: &State) -> State
+    pub(crate) fn with_forgotten(&self, forgotten: Forgotten, other: &State) -> State
         ensures { result ≡ with_forgotten forgotten other.now self.now }
     {
         let with_motion = State {

@@ -3,7 +3,7 @@ use Rattle.std.specs.Coded.{Coded, coded_ℕ}
 use Rattle.std.specs.FinSet as set
 use Rattle.std.specs.Ordering.{nat_cmp}
 use Rattle.sets25.specs.Times.{Times}
-use Rattle.deck9.specs.Codes.{deck_codes}
+use Rattle.deck9.specs.Working.Codes.{deck_codes}
 
 abbrev pub times_code : Coded Times
 times_code = set.code {R = nat_cmp} coded_ℕ
