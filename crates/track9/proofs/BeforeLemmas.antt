@@ -11,7 +11,7 @@ use Rattle.track9.proofs.Words.{forgotten_before, forgotten_with, goals_of, halv
 use Rattle.track9.proofs.Words.{ignored, in_local, inl, inr, is_as_wanted, is_mode, is_mode-same, is_nak, is_own, is_some, just_mode, just_state}
 use Rattle.track9.proofs.Words.{masked, mode_just, mode_some, moved_entry, nat_lt, nat_tests, next_frame, no_entries, no_states, on_halves, option_map}
 use Rattle.track9.proofs.Words.{panel_before, panel_switched, pattern_before, prev_frame, profile_of, states_rate, refl, refused, remains_with_panel_on}
-use Rattle.track9.proofs.Words.{rules, same_fact, sense_of, shown_with, some_entry, some_mode, some_pair, subst, sym, true, true_from_ne_false}
+use Rattle.track9.proofs.Words.{rules, sense_of, shown_with, some_entry, some_mode, some_pair, subst, sym, true, true_from_ne_false}
 use Rattle.track9.proofs.Words.{wanted_before, wanted_of, way, way_of, with_entry, with_wanted, ◌<◌, ◌||◌, ◌↔◌, ◌∙◌, ◌≡◌, ◌⊎◌}
 use Rattle.deck9.specs.declared.deck.Forgotten.TheVariants as forgotten
 use Rattle.deck9.specs.declared.effect.Effect.TheVariants as effect
@@ -118,9 +118,6 @@ entry_fits r o a e d there f = grind arith
 
 day_entry : (rate : Rate) (r : Register) (e : Entry) (d : State) → IsState rate d → IsEntry rate e → IsState rate (with_entry r e d)
 day_entry rate r e d valid new = put_each (λ q es. IsEntry rate) r (no_entries rate) (no_states rate) e d valid new
-
-pub same_facts : (a b : Bool) → (same_fact a b ≡ true) ↔ (a ≡ b)
-same_facts a b = grind arith
 
 pub as_wanted : (o : Option Bool) (b : Bool) → (is_as_wanted o b ≡ true) ↔ Is o b
 as_wanted o b = grind arith

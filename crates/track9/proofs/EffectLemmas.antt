@@ -1,22 +1,22 @@
 -- What becomes of the states of a part, and so what leads from all states with one value of the panel to others: each
 -- effect, and complete exchanges where nobody touches the panel.
-use Rattle.track9.proofs.Words.{all_has, all_pairs, Deck, Everything, Forgets, Forgotten, halves_forgotten, modes, Motion, motion_forgotten, Nothing, Profile, Registers, registers_forgotten, Tape}
-use Rattle.track9.proofs.Words.{agreeing, Agrees, all_forgotten, all_or_none, all_states, Allows, and_from, and_parts, ap, AreSet, Becomes, Block, Bool}
-use Rattle.track9.proofs.Words.{both, Change, changed_entries, changed_part, Command, cond_both, counted, Does, DoesOrNot, Drift, drift_from_pairs, drifted}
-use Rattle.track9.proofs.Words.{drifted_part, drifted_with, Effect, effect_of, Entries, entries_of, entry_of, false, false≢true, forgotten_part, all_shown, gone}
+use Rattle.track9.proofs.Words.{all_has, all_pairs, Deck, Everything, Forgets, Forgotten, halves_forgotten, modes, Motion, motion_forgotten, Nothing, Profile, Registers, registers_forgotten, Tape, IsState, Gives, Deed, Acts, counts_after, DoesOrStays}
+use Rattle.track9.proofs.Words.{agreeing, all_forgotten, all_or_none, all_states, Allows, and_from, and_parts, ap, AreSet, Becomes, Bool}
+use Rattle.track9.proofs.Words.{both, Change, changed_entries, changed_part, cond_both, counted, Does, DoesOrStays, Drift, drift_from_pairs, drifted}
+use Rattle.track9.proofs.Words.{drifted_part, drifted_with, Effect, Entries, entries_of, entry_of, false, false≢true, forgotten_part, all_shown, gone}
 use Rattle.track9.proofs.Words.{either, gone_pairs, gone_part, kept_or_gone, kept_or_gone_part, pairs_of, has, has-and, has-or, has_pair, HasEffect, if◌then◌else◌, IfSome, in_local, inl, InPart}
-use Rattle.track9.proofs.Words.{inr, InHalves, is_as_wanted, part_remains, is_mode, is_mode-same, is_nak, LeadsOn, List, map_halves, masked, masked_part, Mode, mode_self, ModeSet}
-use Rattle.track9.proofs.Words.{no_states, None, Option, or-true, or_cases, Part, Presets, presets_after, put_settled}
-use Rattle.track9.proofs.Words.{refl, refused, RegAudioIn, RegAudioOut, RegIn, Register, RegistersSet, RegOut, reported_part, Sense, sense_of, sensed_part, shown_by, is_own, set_where, settled}
-use Rattle.track9.proofs.Words.{shown_with, ShowsStatus, Some, some_entry, some_mode, some_pair, halves_remain, State, Status, status_of, status_part, DeckStep, subst, sym, Taken, Tells, time_of, true}
-use Rattle.track9.proofs.Words.{halves_changed, halves_drifted, halves_gone, halves_kept_or_gone, halves_sensed, halves_status, HalvesBelow, HalvesFew, Halves, HalvesWhole, where_remains, Whole, with_command, with_entries, with_entry}
+use Rattle.track9.proofs.Words.{inr, InHalves, is_as_wanted, part_remains, is_mode, is_mode-same, LeadsOn, List, map_halves, masked, masked_part, Mode, mode_self, ModeSet}
+use Rattle.track9.proofs.Words.{no_states, None, Option, or-true, or_cases, Part, Presets, put_settled}
+use Rattle.track9.proofs.Words.{refl, RegAudioIn, RegAudioOut, RegIn, Register, RegistersSet, RegOut, reported_part, sensed_part, set_where, settled}
+use Rattle.track9.proofs.Words.{shown_with, ShowsStatus, Some, some_entry, some_mode, some_pair, halves_remain, State, Status, status_part, subst, sym, Taken, true}
+use Rattle.track9.proofs.Words.{halves_changed, halves_drifted, halves_gone, halves_kept_or_gone, halves_sensed, halves_status, HalvesBelow, HalvesFew, Halves, HalvesWhole, where_remains, Whole, with_entries, with_entry}
 use Rattle.track9.proofs.Words.{Rate, halves_rate, part_rate, untouched, with_pairs, ℕ, ◌&&◌, ◌||◌, ◌↔◌, ◌∙◌, ◌≡◌, ◌⊎◌}
 use Rattle.deck9.specs.declared.effect.Effect.TheVariants as effect
-use Rattle.deck9.specs.declared.sense.Sense.TheVariants as sense
+use Rattle.track9.specs.declared.deed.Deed.TheVariants as deed
 use Rattle.deck9.proofs.EffectLemmas.{does_valid}
 use Rattle.track9.proofs.EntryLemmas.{allowed_some, drifted_from, drifted_to, entry_from, entry_stays, entry_to, goes_from, goes_to, pair_by_goal, pairs_have, pairs_some}
-use Rattle.track9.proofs.EntryLemmas.{set_exactly, some_allowed, tells_exactly}
-use Rattle.track9.proofs.PartLemmas.{a_state, all_exactly, any_entries, Below, drift_below, drift_some, drift_whole, each_register, few_agreeing, few_all_states}
+use Rattle.track9.proofs.EntryLemmas.{set_exactly, some_allowed, gives_exactly}
+use Rattle.track9.proofs.PartLemmas.{a_state, all_exactly, any_entries, Below, drift_below, drift_some, drift_whole, each_register, few_agreeing, few_all_states, state_is}
 use Rattle.track9.proofs.PartLemmas.{few_changed_part, few_counted, few_no_states, few_pairs, few_put, few_set, few_settled, few_halves, FewIn, in_none, in_pairs, mechanics}
 use Rattle.track9.proofs.PartLemmas.{not_live, pairs_registers, put, put_in, read_put, settled_exactly, take_out, halves_live, halves_state, whole_all, whole_drift, whole_in}
 use Rattle.track9.proofs.PartLemmas.{all_drifted_pairs, drifted_all, each_put, of_rate, OfRate, PartBelow, whole_rate, whole_none, whole_pairs, whole_put, whole_settled, whole_halves}
@@ -183,7 +183,7 @@ goal_leads rate Goes may_stay goal p steps whole live = record {
 
 -- the states as they are, and those with one of these goals
 kept_leads : (deck : Option Deck) (rate : Rate) (may_stay : Bool) (goals : ModeSet) (p : Part)
-    → Whole rate p → part_remains p ≡ true → PartLeads rate (DoesOrNot deck rate may_stay (effect.KeepOr goals)) (λ n. n) p (λ l. kept_or_gone_part goals p)
+    → Whole rate p → part_remains p ≡ true → PartLeads rate (DoesOrStays (untouched deck rate) may_stay (effect.KeepOr goals)) (λ n. n) p (λ l. kept_or_gone_part goals p)
 kept_leads deck rate m goals p whole live = record {
   from = λ t i.
       let old = pairs_registers p (kept_or_gone goals p.pairs) t i in
@@ -196,7 +196,7 @@ kept_leads deck rate m goals p whole live = record {
     | inl (inl e) ↦ rw e (kept_state s i)
     | inl (inr (goes, e)) ↦ rw e (in_pairs p (kept_or_gone goals p.pairs) s t.goal s.shown i.registers
         (kept_has goals p.pairs t.goal s.shown ∙ rw (goes, goes_to p.pairs s.goal s.shown i.pair) (or-true (has_pair p.pairs t.goal s.shown))))
-    | inr (may, stays, e) ↦ rw e (kept_state s i)
+    | inr (stays, e) ↦ rw e (kept_state s i)
   ];
   whole = λ l. whole_pairs rate (kept_or_gone goals p.pairs) p whole (kept_some goals p.pairs live ∙ sym live);
   few = λ l n few. few_pairs n _ p few;
@@ -258,9 +258,9 @@ any_pair : (g m : Mode) → has_pair all_pairs g m ≡ true
 any_pair g m = pair_by_goal (λ g. modes 0x3FF) g m ∙ all_has m
 
 part_leads : (deck : Option Deck) (rate : Rate) (may_stay : Bool) (e : Effect) (p : Part) → is_by_part e ≡ true → Whole rate p → part_remains p ≡ true → Below e p
-    → PartLeads rate (DoesOrNot deck rate may_stay e) (counted e) p (λ l. part_effect may_stay e l p)
-part_leads deck rate m (effect.Go g) p by whole live below = goal_leads rate (DoesOrNot deck rate m (effect.Go g)) (λ l. l || m) g p
-    (λ s t. (λ d. elim d [ inl e ↦ inl e | inr (may, stays, e) ↦ inr (stays, e) ], λ d. elim d [ inl e ↦ inl e | inr (stays, e) ↦ inr (refl, stays, e) ])) whole
+    → PartLeads rate (DoesOrStays (untouched deck rate) may_stay e) (counted e) p (λ l. part_effect may_stay e l p)
+part_leads deck rate m (effect.Go g) p by whole live below = goal_leads rate (DoesOrStays (untouched deck rate) m (effect.Go g)) (λ l. l || m) g p
+    (λ s t. (λ d. d, λ d. d)) whole
     live
 part_leads deck rate m (effect.KeepOr goals) p by whole live below = kept_leads deck rate m goals p whole live
 part_leads deck rate m (effect.Change r c) p by whole live below =
@@ -281,12 +281,12 @@ part_leads deck rate m (effect.Change r c) p by whole live below =
                 sym at.again,
               ),
             )
-            | inr (stays, same) ↦ (t, subst (InPart p) (put r e t).same (take_out r new p e t j same), refl, refl, inr (refl, stays, refl))
+            | inr (stays, same) ↦ (t, subst (InPart p) (put r e t).same (take_out r new p e t j same), refl, refl, inr (stays, refl))
           ];
       to = λ s t i d. let e = entry_of r s in let b = s.local || m in elim d [
         | inl (f, becomes, same) ↦ rw same ((kept_exactly s.local (changed_part b r c p) (with_entry r f s)).1
             (put_in r _ p f s i (entry_to b c es e f (i.registers r) (subst (λ other. Becomes other c e f) (sym is) becomes))))
-        | inr (may, stays, same) ↦ (kept_exactly s.local (changed_part b r c p) t).1
+        | inr (stays, same) ↦ (kept_exactly s.local (changed_part b r c p) t).1
             (subst (InPart (changed_part b r c p)) ((put r e s).same ∙ sym same)
             (put_in r _ p e s i (entry_stays b c es e stays (below r) (i.registers r))))
       ];
@@ -296,12 +296,12 @@ part_leads deck rate m (effect.Change r c) p by whole live below =
 part_leads deck rate m _ p by whole live below = absurd (false≢true by)
 
 -- where nobody touches the panel no such effect changes it or local
-does_keep : (deck : Option Deck) (rate : Rate) (may_stay : Bool) (e : Effect) (s t : State) → is_by_part e ≡ true → DoesOrNot deck rate may_stay e s t → (t.panel ≡ s.panel) × (t.local ≡ s.local)
+does_keep : (deck : Option Deck) (rate : Rate) (may_stay : Bool) (e : Effect) (s t : State) → is_by_part e ≡ true → DoesOrStays (untouched deck rate) may_stay e s t → (t.panel ≡ s.panel) × (t.local ≡ s.local)
 does_keep deck rate may_stay e s t by h = grind arith
 
 pub has_effect : (deck : Option Deck) (rate : Rate) (may_stay : Bool) (e : Effect) (h : Halves) → is_by_part e ≡ true → HalvesWhole rate h → ((l : Bool) → Below e (in_local h l))
     → HasEffect deck rate may_stay e h (map_halves (λ l. where_remains (part_effect may_stay e l)) h)
-has_effect deck rate m e h by whole below = leads rate (DoesOrNot deck rate m e) (counted e)
+has_effect deck rate m e h by whole below = leads rate (DoesOrStays (untouched deck rate) m e) (counted e)
     (record { local = λ s t d. (does_keep deck rate m e s t by d).1; panel = λ s t d. (does_keep deck rate m e s t by d).0 }) (part_effect m e) h whole
     (λ l n few. few_counted e n (in_local h l) (below l) few) (λ l live. part_leads deck rate m e (in_local h l) by (whole_in rate h whole l) live (below l))
 
@@ -373,8 +373,8 @@ leads_same rate h whole = record { reached = λ pn. (λ t i. (t, i, refl), λ s 
 pub after_drift : (deck : Option Deck) (rate : Rate) (may_stay : Bool) (e : Effect) (h : Halves) → ((s t : State) → (t ≡ s) → Does (untouched deck rate) e s t)
     → ((s t : State) → Does (untouched deck rate) e s t → t ≡ s)
     → ((n : Presets) → counted e n ≡ n) → HalvesWhole rate h → HasEffect deck rate may_stay e (halves_drifted deck h) (halves_drifted deck h)
-after_drift deck rate m e h there back same whole = leads_as rate (λ s t. t ≡ s) (DoesOrNot deck rate m e) (λ n. n) (counted e) (halves_drifted deck h) (halves_drifted deck h)
-    (λ s t e. inl (there s t e)) (λ s t i d. elim d [ inl does ↦ back s t does | inr (may, stays, e) ↦ e ]) same
+after_drift deck rate m e h there back same whole = leads_as rate (λ s t. t ≡ s) (DoesOrStays (untouched deck rate) m e) (λ n. n) (counted e) (halves_drifted deck h) (halves_drifted deck h)
+    (λ s t e. inl (there s t e)) (λ s t i d. elim d [ inl does ↦ back s t does | inr (stays, e) ↦ e ]) same
     (leads_same rate (halves_drifted deck h) (drift_whole deck rate h whole))
 
 -- ---- what is forgotten
@@ -449,29 +449,38 @@ drift_forgotten deck Everything h = by (halves_remain h) ∙ ap (λ (b : Bool). 
     by true = drifted_all deck (halves_rate h) true
     by false = refl
 
-pub after_forgotten : (deck : Option Deck) (rate : Rate) (may_stay : Bool) (g : Forgotten) (h : Halves) → HalvesWhole rate h
+-- forgetting may leave a state as it is
+forgets_itself : (deck : Option Deck) (rate : Rate) (g : Forgotten) (s : State) → IsState rate s → Forgets (untouched deck rate) g s s
+forgets_itself deck rate g s valid = grind arith
+
+pub after_forgotten : (deck : Option Deck) (rate : Rate) (may_stay : Bool) (g : Forgotten) (h : Halves) → HalvesWhole rate h → HalvesBelow h
     → HasEffect deck rate may_stay (effect.Forget g) (halves_drifted deck h) (halves_drifted deck (halves_forgotten g h))
-after_forgotten deck rate m g h whole = subst (HasEffect deck rate m (effect.Forget g) (halves_drifted deck h)) (sym (drift_forgotten deck g h))
-    (leads_as rate (Forgets (untouched deck rate) g) (DoesOrNot deck rate m (effect.Forget g)) (λ n. n) (counted (effect.Forget g)) (halves_drifted deck h)
-    (halves_forgotten g (halves_drifted deck h)) (λ s t f. inl f) (λ s t i d. elim d [ inl f ↦ f | inr w ↦ absurd (false≢true w.0) ]) (λ n. refl)
+after_forgotten deck rate m g h whole below = subst (HasEffect deck rate m (effect.Forget g) (halves_drifted deck h)) (sym (drift_forgotten deck g h))
+    (leads_as rate (Forgets (untouched deck rate) g) (DoesOrStays (untouched deck rate) m (effect.Forget g)) (λ n. n) (counted (effect.Forget g)) (halves_drifted deck h)
+    (halves_forgotten g (halves_drifted deck h)) (λ s t f. inl f) (λ s t i d. elim d [
+      | inl f ↦ f
+      | inr (stays, e) ↦ rw e (forgets_itself deck rate g s
+          (state_is rate (in_local (halves_drifted deck h) s.local) s (of_rate rate (in_local (halves_drifted deck h) s.local) (whole_in rate (halves_drifted deck h) (drift_whole deck rate h whole) s.local))
+          (drift_below deck h below s.local) i))
+    ]) (λ n. refl)
     (halves_forget deck rate g (halves_drifted deck h) (drift_whole deck rate h whole)))
 
 -- ---- a register's time
 
--- exactly the states whose register tells these bytes
-sense_exactly : (rate : Rate) (r : Register) (bytes : List ℕ) (p : Part) (t : State) → OfRate rate p
-    → InPart (sensed_part r (time_of rate bytes) p) t ↔ (InPart p t × Tells rate (entry_of r t) bytes)
-sense_exactly rate r bytes p t same =
+-- exactly the states whose register gives this time
+sense_exactly : (rate : Rate) (r : Register) (time : Option ℕ) (p : Part) (t : State) → OfRate rate p
+    → InPart (sensed_part r time p) t ↔ (InPart p t × Gives rate time (entry_of r t))
+sense_exactly rate r time p t same =
     let es = entries_of r p in
-    let new = agreeing (time_of rate bytes) es in
+    let new = agreeing time es in
     let e = entry_of r t in
-    let tells = subst (λ other. Allows (agreeing (time_of other bytes) es) e ↔ (Allows es e × Tells other e bytes)) (same r) (tells_exactly bytes es e) in (
+    let gives = subst (λ other. Allows new e ↔ (Allows es e × Gives other time e)) (same r) (gives_exactly time es e) in (
       λ i.
           let there = (settled_exactly (with_entries r new p) t).0 i in
-          let w = tells.0 (subst (λ es. Allows es e) (read_put r new p) (there.registers r)) in
+          let w = gives.0 (subst (λ es. Allows es e) (read_put r new p) (there.registers r)) in
           (subst (InPart p) (put r e t).same (take_out r new p e t there w.0), w.1),
-      λ (i, told). (settled_exactly (with_entries r new p) t).1 (subst (InPart (with_entries r new p)) (put r e t).same
-          (put_in r new p e t i (tells.1 (i.registers r, told)))),
+      λ (i, given). (settled_exactly (with_entries r new p) t).1 (subst (InPart (with_entries r new p)) (put r e t).same
+          (put_in r new p e t i (gives.1 (i.registers r, given)))),
     )
 
 -- ---- status
@@ -548,45 +557,13 @@ reads_status rate status h whole = reads rate (λ s. ShowsStatus s status) (λ l
     (λ e. few_settled n (set_where status.registers (masked_part status.shown p))
     (few_where n status.registers (masked_part status.shown p) (few_masked n status.shown p few))) (λ e. few_no_states (part_rate p) n))
 
--- ---- complete exchanges
+-- ---- deeds
 
--- a command that asks for something of the state has no effect, and a reply to one that asks for nothing shows nothing
-asks_or_has_effect : (deck : Option Deck) (c : Command) → (sense_of c ≡ sense.Nothing) ⊎ (effect_of deck c ≡ effect.Nothing)
-asks_or_has_effect deck c = grind arith
-
-pub shows_or_acts : (deck : Option Deck) (c : Command) (reply : Block) → (shown_by c reply ≡ sense.Nothing) ⊎ (effect_of deck c ≡ effect.Nothing)
-shows_or_acts deck c reply = elim (asks_or_has_effect deck c) [
-  | inl e ↦ inl (cond_both (is_own c reply) (sense_of c) sense.Nothing (λ q. q ≡ sense.Nothing) (λ own. e) (λ other. refl))
-  | inr none ↦ inr none
-]
-
--- the presets are those of the effect
-pub command_counts : (deck : Option Deck) (c : Command) (n : Presets) → with_command c n ≡ counted (effect_of deck c) n
-command_counts deck c n = grind arith
-
-pub presets_of : (deck : Option Deck) (c : Command) (reply : Block) (n : Presets) → is_nak reply ≡ false → presets_after c reply true n ≡ counted (effect_of deck c) n
-presets_of deck c reply n nak = rw nak (command_counts deck c n)
-
--- a drift, and then a step
-exchanged_by : (deck : Option Deck) (rate : Rate) (c : Command) (reply : Block) (Goes : State → State → Type 0) (count : Presets → Presets) (h g : Halves) → HalvesWhole rate h
-    → ((s t : State) → Goes s t ↔ DeckStep (untouched deck rate) c reply s t)
-    → ((n : Presets) → presets_after c reply true n ≡ count n) → LeadsOn rate Goes count (halves_drifted deck h) g → Taken deck rate c (Some reply) h g
-exchanged_by deck rate c reply Goes count h g whole steps same led = leads_then rate (Drift (untouched deck rate)) (DeckStep (untouched deck rate) c reply) (λ n. n) (presets_after c reply true) h
-    (halves_drifted deck h) g (drift_leads deck rate h whole)
-    (leads_as rate Goes (DeckStep (untouched deck rate) c reply) count (presets_after c reply true) (halves_drifted deck h) g (λ s t. (steps s t).0) (λ s t i. (steps s t).1) same
-    led)
-
-pub exchanged_nak : (deck : Option Deck) (rate : Rate) (c : Command) (reply : Block) (h : Halves) → is_nak reply ≡ true → HalvesWhole rate h → Taken deck rate c (Some reply) h (halves_drifted deck h)
-exchanged_nak deck rate c reply h nak whole = exchanged_by deck rate c reply (λ s t. t ≡ s) (λ n. n) h (halves_drifted deck h) whole (λ s t. (λ e. refused nak e, back s t))
-    (λ n. rw nak refl) (leads_same rate (halves_drifted deck h) (drift_whole deck rate h whole))
-  where
-    back : (s t : State) → DeckStep (untouched deck rate) c reply s t → t ≡ s
-    back s t h = grind arith
-
--- a step whose reply shows something is what it shows
-asks : (deck : Option Deck) (rate : Rate) (c : Command) (reply : Block) (q : Sense) → is_nak reply ≡ false → shown_by c reply ≡ q → effect_of deck c ≡ effect.Nothing → (s t : State)
-    → (Agrees rate q s reply × (t ≡ s)) ↔ DeckStep (untouched deck rate) c reply s t
-asks deck rate c reply q nak sensed none s t = grind arith
+-- a drift, and then what a deed makes of the states
+pub taken : (deck : Option Deck) (rate : Rate) (d : Deed) (h g : Halves) → HalvesWhole rate h
+    → LeadsOn rate (Acts d (untouched deck rate)) (counts_after d) (halves_drifted deck h) g → Taken deck rate d h g
+taken deck rate d h g whole led = leads_then rate (Drift (untouched deck rate)) (Acts d (untouched deck rate)) (λ n. n) (counts_after d) h (halves_drifted deck h) g
+    (drift_leads deck rate h whole) led
 
 drift_sensed : (deck : Option Deck) (r : Register) (time : Option ℕ) (h : Halves)
     → halves_drifted deck (halves_sensed r time h) ≡ map_halves (λ l. where_remains (sensed_part r time)) (halves_drifted deck h)
@@ -598,36 +575,16 @@ drift_sensed deck r time h = ap (halves_drifted deck) (halves_same _ (map_halves
     by : (p : Part) (b : Bool) → put_settled r (if b then Some (agreeing time (entries_of r p)) else None) p ≡ (if b then sensed_part r time p else p)
     by p b = grind arith
 
-pub exchanged_sense : (deck : Option Deck) (rate : Rate) (c : Command) (reply : Block) (r : Register) (h : Halves) → is_nak reply ≡ false → shown_by c reply ≡ sense.Register r → HalvesWhole rate h
-    → Taken deck rate c (Some reply) h (halves_drifted deck (halves_sensed r (time_of rate reply.bytes.items) h))
-exchanged_sense deck rate c reply r h nak wanted whole =
-    let bytes = reply.bytes.items in
-    let at = time_of rate bytes in
-    let none : effect_of deck c ≡ effect.Nothing = elim (shows_or_acts deck c reply) [ inl e ↦ cc | inr none ↦ none ] in
-    rw (drift_sensed deck r at h) (exchanged_by deck rate c reply (λ s t. Tells rate (entry_of r s) bytes × (t ≡ s)) (λ n. n) h
-    (map_halves (λ l. where_remains (sensed_part r at)) (halves_drifted deck h)) whole
-    (asks deck rate c reply (sense.Register r) nak wanted none) (λ n. presets_of deck c reply n nak ∙ ap (λ e. counted e n) none)
-    (reads rate (λ s. Tells rate (entry_of r s) bytes) (λ l. sensed_part r at) (halves_drifted deck h) (drift_whole deck rate h whole) (sense_exactly rate r bytes)
-    (λ l p same. whole_settled rate (with_entries r (agreeing at (entries_of r p)) p)
-    (put_rate rate r (agreeing at (entries_of r p)) p same (agreeing_rate at (entries_of r p))))
-    (λ l n p few. few_settled n _ (few_put n r (agreeing at (entries_of r p)) p few (few_agreeing _ at (entries_of r p))))))
+pub taken_read : (deck : Option Deck) (rate : Rate) (r : Register) (time : Option ℕ) (h : Halves) → HalvesWhole rate h
+    → Taken deck rate (deed.Read r time) h (halves_drifted deck (halves_sensed r time h))
+taken_read deck rate r time h whole = rw (drift_sensed deck r time h) (taken deck rate (deed.Read r time) h
+    (map_halves (λ l. where_remains (sensed_part r time)) (halves_drifted deck h)) whole
+    (reads rate (λ s. Gives rate time (entry_of r s)) (λ l. sensed_part r time) (halves_drifted deck h) (drift_whole deck rate h whole) (sense_exactly rate r time)
+    (λ l p same. whole_settled rate (with_entries r (agreeing time (entries_of r p)) p)
+    (put_rate rate r (agreeing time (entries_of r p)) p same (agreeing_rate time (entries_of r p))))
+    (λ l n p few. few_settled n _ (few_put n r (agreeing time (entries_of r p)) p few (few_agreeing _ time (entries_of r p))))))
 
-pub exchanged_status : (deck : Option Deck) (rate : Rate) (c : Command) (reply : Block) (asked : ℕ) (h : Halves) → is_nak reply ≡ false → shown_by c reply ≡ sense.Status asked → HalvesWhole rate h
-    → Taken deck rate c (Some reply) h (halves_status (status_of asked reply) (halves_drifted deck h))
-exchanged_status deck rate c reply asked h nak asks_for whole =
-    let status = status_of asked reply in
-    let none : effect_of deck c ≡ effect.Nothing = elim (shows_or_acts deck c reply) [ inl e ↦ cc | inr none ↦ none ] in
-    exchanged_by deck rate c reply (λ s t. ShowsStatus s status × (t ≡ s)) (λ n. n) h (halves_status status (halves_drifted deck h)) whole
-    (asks deck rate c reply (sense.Status asked) nak asks_for none)
-    (λ n. presets_of deck c reply n nak ∙ ap (λ e. counted e n) none) (reads_status rate status (halves_drifted deck h) (drift_whole deck rate h whole))
-
-pub exchanged_effect : (deck : Option Deck) (rate : Rate) (c : Command) (reply : Block) (h g : Halves) → is_nak reply ≡ false → shown_by c reply ≡ sense.Nothing → HalvesWhole rate h
-    → HasEffect deck rate false (effect_of deck c) (halves_drifted deck h) g → Taken deck rate c (Some reply) h g
-exchanged_effect deck rate c reply h g nak sensed whole =
-    exchanged_by deck rate c reply (DoesOrNot deck rate false (effect_of deck c)) (counted (effect_of deck c)) h g whole (λ s t. (there s t, back s t)) (λ n. presets_of deck c reply n nak)
-  where
-    there : (s t : State) → DoesOrNot deck rate false (effect_of deck c) s t → DeckStep (untouched deck rate) c reply s t
-    there s t h = grind arith
-
-    back : (s t : State) → DeckStep (untouched deck rate) c reply s t → DoesOrNot deck rate false (effect_of deck c) s t
-    back s t h = grind arith
+pub taken_report : (deck : Option Deck) (rate : Rate) (status : Status) (h : Halves) → HalvesWhole rate h
+    → Taken deck rate (deed.Report status) h (halves_status status (halves_drifted deck h))
+taken_report deck rate status h whole = taken deck rate (deed.Report status) h (halves_status status (halves_drifted deck h)) whole
+    (reads_status rate status (halves_drifted deck h) (drift_whole deck rate h whole))

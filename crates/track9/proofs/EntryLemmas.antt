@@ -1,6 +1,6 @@
 -- Single things that a tracker keeps: sets of modes, one bit at a time; a drift of pairs of goal and shown mode; and
 -- what becomes of a set of entries, one entry at a time.
-use Rattle.track9.proofs.Words.{all_has, and-true, Deck, either, has-and, nothing_has, ten_of, way_of}
+use Rattle.track9.proofs.Words.{all_has, and-true, Deck, either, has-and, nothing_has, ten_of, way_of, Gives}
 use Rattle.track9.proofs.Words.{[], agreeing, Allows, and_parts, any_mode, ap, arith, At, Becomes, BelowDay, bit_of, Bool}
 use Rattle.track9.proofs.Words.{just_of, Rate, with_time, by_goal, Change, changed_entries, Clear, cond_both, contains-every_time, contains-insert_nat, contains-items_nat, contains-just, day}
 use Rattle.track9.proofs.Words.{drifted_with, Entries, Entry, eqb-true, every_mode, every_time, false, false≢true, find_mode, goal_if_shown, goals_of, all_shown, halted}
@@ -135,9 +135,13 @@ entry_stays may_stay c es e stays below a = grind (arith, contains-insert_nat, d
 
 -- ---- entries that agree with a reply
 
--- exactly the entries that tell these bytes
-pub tells_exactly : (bytes : List ℕ) (es : Entries) (e : Entry) → Allows (agreeing (time_of es.rate bytes) es) e ↔ (Allows es e × Tells es.rate e bytes)
-tells_exactly bytes es e = grind (arith, set.contains-empty nat_cmp, read_given, just_is, given_reads, just_self)
+-- exactly the entries that give this time
+pub gives_exactly : (time : Option ℕ) (es : Entries) (e : Entry) → Allows (agreeing time es) e ↔ (Allows es e × Gives es.rate time e)
+gives_exactly time es e = grind (arith, set.contains-empty nat_cmp, just_is, just_self)
+
+-- an entry gives the time that the bytes are exactly where it tells them
+pub tells_gives : (rate : Rate) (bytes : List ℕ) (e : Entry) → Gives rate (time_of rate bytes) e ↔ Tells rate e bytes
+tells_gives rate bytes e = grind (arith, read_given, given_reads)
 
 -- exactly the entries that are Set, or are Clear
 pub set_exactly : (b : Bool) (es : Entries) (e : Entry) → Allows (set_entries b es) e ↔ (Allows es e × (is_set e ≡ b))

@@ -3,9 +3,8 @@ use Rattle.track9.proofs.Words.{AllLeadOn, AreForgotten, AreReached, AreTracked,
 use Rattle.track9.proofs.Words.{Forgotten, Goes, Halves, HalvesWhole, Hands, InHalves, IsState, LeadsOn, Nothing, Option, Passes, Presets, Profile}
 use Rattle.track9.proofs.Words.{Rate, Some, State, States, ap, false, first_states, forgotten_beside, forgotten_with, halves_forgotten, halves_of}
 use Rattle.track9.proofs.Words.{hands_of, head_of, if◌then◌else◌, profile_of, states_rate, halves_rate, refl, states_remain, subst, sym, true, untouched, ◌↔◌}
-use Rattle.track9.proofs.Words.{◌≡◌, ◌≢◌, ◌⊎◌}
+use Rattle.track9.proofs.Words.{◌≡◌, ◌≢◌}
 use Rattle.deck9.specs.Contradict.{MayGo}
-use Rattle.deck9.specs.declared.effect.Effect.TheVariants as effect
 use Rattle.deck9.specs.declared.state.Hands.TheVariants as hands
 use Rattle.track9.proofs.EffectLemmas.{halves_forget}
 use Rattle.deck9.proofs.EffectLemmas.{forgets_none}

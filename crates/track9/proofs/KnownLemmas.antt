@@ -1,10 +1,10 @@
 -- What is known of modes, of facts and of a register; and what a tracker keeps, remains and counts.
-use Rattle.track9.proofs.Words.{Allows, ap, AreFew, AreTimes, AreWhole, arith, At, begin_count-empty, Block, Bool, Clear, Command, contains-just}
+use Rattle.track9.proofs.Words.{Allows, ap, AreFew, AreTimes, AreWhole, arith, At, begin_count-empty, Bool, Clear, contains-just, Deed, counts_after, if◌then◌else◌}
 use Rattle.track9.proofs.Words.{contains-remove_nat, contains-retain_nat, count_of, either, Entries, entries_of, Entry, entry_of, eqb-true, false, false_from_ne_true, false≢true, Follows}
 use Rattle.track9.proofs.Words.{Profile, profile_of, Rate, states_rate, states_goals, goals_of, all_shown, has, has-or, has_pair, in_local, inl, InPart, inr, part_remains, is_nil, remains_with_panel_on}
 use Rattle.track9.proofs.Words.{is_some, AreTracked, IsKnown, IsKnownEntry, IsSpanCount, IsTrue, join_options, joined, just, Known, known_fact, KnownEntry, KnowsModes}
 use Rattle.track9.proofs.Words.{KnowsOf, List, max, max-zero, Mode, mode_some, ModeSet, nat_cmp, nat_tests, None, on_halves, Option, part_of, PartKnows, Part}
-use Rattle.track9.proofs.Words.{Possible, Presets, presets_after, refl, Register, same_test, same_times, states_shown, shown_with, Some, some_entry, some_mode, states_remain}
+use Rattle.track9.proofs.Words.{Possible, Presets, refl, Register, same_test, same_times, states_shown, shown_with, Some, some_entry, some_mode, states_remain}
 use Rattle.track9.proofs.Words.{halves_remain, span_count, span_count-begin_count, State, States, subst, sym, Times, true, halves_of, HalvesKnow, Halves, HalvesWhole}
 use Rattle.track9.proofs.Words.{Whole, with_entry, ℕ, ◌+◌, ◌||◌, ◌↔◌, ◌∙◌, ◌≡◌, ◌≢◌, ◌≤◌, ◌⊎◌}
 use Rattle.std.specs.FinSet as set
@@ -204,9 +204,13 @@ dead_few n v whole dead pn l r = let none = nil_empty (entries_of r (part_of v l
 pub whole_at_rate : (p : Profile) (w : States) → profile_of p.deck w ≡ p → AreWhole p.rate w → AreWhole (states_rate w) w
 whole_at_rate p w same whole = subst (λ rate. AreWhole rate w) (sym (ap (λ (p : Profile). p.rate) same)) whole
 
-pub tracked_after : (c : Command) (reply : Block) (v w : States) (p : Profile) (n : Presets) → AreTracked n v → Follows p c (Some reply) v w
-    → AreTracked (presets_after c reply (states_remain w) n) w
-tracked_after c reply v w p n kept follows = grind (arith, whole_at_rate, dead_few)
+-- what a state is kept of where one was kept before
+pub tracked_next : (d : Deed) (v w : States) (p : Profile) (n : Presets) → AreTracked n v → Follows p d v w → AreTracked (counts_after d n) w
+tracked_next d v w p n kept follows = record { whole = whole_at_rate p w follows.profile follows.whole; few = follows.few n kept.few }
+
+pub tracked_after : (d : Deed) (v w : States) (p : Profile) (n : Presets) → AreTracked n v → Follows p d v w
+    → AreTracked (if states_remain w then counts_after d n else n) w
+tracked_after d v w p n kept follows = grind (arith, whole_at_rate, dead_few)
 
 -- ---- spans
 

@@ -1,4 +1,5 @@
 pub mod BeforeLemmas
+pub mod DeedLemmas
 pub mod EffectLemmas
 pub mod EntryLemmas
 pub mod FollowLemmas

@@ -1,17 +1,17 @@
--- All states: complete exchanges, and commands whose reply is not known, also where hands are allowed on the panel.
-use Rattle.track9.proofs.Words.{Everything, Deck, nat_cmp}
-use Rattle.track9.proofs.Words.{[], after_panel, all_drifted, all_or_none, AllLeadOn, ap, AreBelow, AreFew, AreReached, AreWhole, Block, Bool}
-use Rattle.track9.proofs.Words.{CanPass, Command, cond_both, counted, counts_after, Does, DoesOrNot, done, Drift, drift_from_pairs, DriftsAndGoes, Effect, effect_of, effect_taken, either_panel}
-use Rattle.track9.proofs.Words.{false, false≢true, first_states, Follows, FollowsDrift, Hands, hands_by, hands_of, has, HasEffect, if◌then◌else◌}
-use Rattle.track9.proofs.Words.{in_local, inl, InPart, inr, InHalves, is_nak, remains_with_panel_on, is_wide, IsIn, AreTracked, IsState}
-use Rattle.track9.proofs.Words.{LeadsOn, None, on_halves, Option, panel_passed, Possible, Presets, presets_after, refl}
-use Rattle.track9.proofs.Words.{shown_by, Some, states_remain, State, States, DeckStep, subst, switched, sym, Taken, StepOrPass, true, halves_drifted, halves_of, HalvesBelow, HalvesFew, Halves}
-use Rattle.track9.proofs.Words.{Profile, Rate, states_rate, halves_rate, untouched, HalvesWhole, with_command, ◌↔◌, ◌∙◌, ◌≡◌, ◌⊎◌}
+-- All states after a deed, also where hands are allowed on the panel.
+use Rattle.track9.proofs.Words.{Acts, Deed, Everything, Deck, is_wide, nat_cmp}
+use Rattle.track9.proofs.Words.{[], after_panel, all_drifted, all_or_none, AllLeadOn, ap, AreBelow, AreFew, AreReached, AreWhole, Bool}
+use Rattle.track9.proofs.Words.{cond_both, Does, Drift, drift_from_pairs, DriftsAndGoes, either_panel}
+use Rattle.track9.proofs.Words.{false, false≢true, first_states, Follows, Hands, hands_by, hands_of, if◌then◌else◌}
+use Rattle.track9.proofs.Words.{in_local, inl, InPart, inr, InHalves, remains_with_panel_on, IsIn, AreTracked, IsState}
+use Rattle.track9.proofs.Words.{LeadsOn, None, on_halves, Option, panel_passed, Possible, Presets, refl}
+use Rattle.track9.proofs.Words.{Some, states_remain, State, States, subst, switched, sym, true, halves_drifted, halves_of, HalvesBelow, HalvesFew, Halves}
+use Rattle.track9.proofs.Words.{Profile, Rate, states_rate, halves_rate, untouched, HalvesWhole, ◌↔◌, ◌∙◌, ◌≡◌, ◌⊎◌}
 use Rattle.deck9.specs.declared.effect.Effect.TheVariants as effect
-use Rattle.deck9.specs.declared.sense.Sense.TheVariants as sense
+use Rattle.track9.specs.declared.deed.Deed.TheVariants as deed
 use Rattle.deck9.specs.declared.state.Hands.TheVariants as hands
-use Rattle.track9.proofs.EffectLemmas.{shows_or_acts, command_counts, drift_leads, leads_as, leads_same, leads_then, presets_of}
-use Rattle.track9.proofs.PartLemmas.{drifted_all, all_exactly, both_few, by_panel, drift_below, drift_few, drift_panel, drift_state, drift_whole, few_halves, first_exactly, live_some}
+use Rattle.track9.proofs.EffectLemmas.{drift_leads, leads_same, leads_then}
+use Rattle.track9.proofs.PartLemmas.{drifted_all, all_exactly, both_few, by_panel, drift_few, drift_panel, drift_state, drift_whole, few_halves, first_exactly, live_some}
 use Rattle.track9.proofs.PartLemmas.{of_rate, off_drift, whole_rate, whole_in, possible_state, same_drift, some_live, state_is, halves_live, halves_none, halves_state, whole_halves}
 use Rattle.std.proofs.Common.{arith}
 use Rattle.std.specs.FinSet as set
@@ -22,8 +22,11 @@ touched deck rate = record { rate = rate; hands = hands.Allowed; deck = deck }
 
 -- ---- where hands are not allowed
 
-pub take_panel : (deck : Option Deck) (rate : Rate) (c : Command) (reply : Option Block) (s t : State) → DriftsAndGoes (StepOrPass c reply) (untouched deck rate) s t → t.panel ≡ s.panel
-take_panel deck rate c reply s t (d, drift, takes) = grind (arith, drift_panel (untouched deck rate) s d drift)
+keeps_panel : (deck : Option Deck) (rate : Rate) (d : Deed) (s t : State) → Acts d (untouched deck rate) s t → t.panel ≡ s.panel
+keeps_panel deck rate d s t acts = grind arith
+
+pub take_panel : (deck : Option Deck) (rate : Rate) (d : Deed) (s t : State) → DriftsAndGoes (Acts d) (untouched deck rate) s t → t.panel ≡ s.panel
+take_panel deck rate d s t (u, drift, acts) = keeps_panel deck rate d u t acts ∙ drift_panel (untouched deck rate) s u drift
 
 -- then there is nothing with the panel on
 pub none_on : (o : Option Halves) → hands_by o ≡ hands.None → o ≡ None
@@ -57,8 +60,8 @@ pub record IsNarrow (deck : Option Deck) (rate : Rate) (Goes : Profile → State
   pub same : (h k : Hands) (s t : State) → Goes (deck_of deck rate h) s t → Goes (deck_of deck rate k) s t
   pub panel : (s t : State) → DriftsAndGoes Goes (untouched deck rate) s t → t.panel ≡ s.panel
 
-pub narrow_take : (deck : Option Deck) (rate : Rate) (c : Command) (reply : Option Block) → is_wide (effect_taken deck c reply) ≡ false → IsNarrow deck rate (StepOrPass c reply)
-narrow_take deck rate c reply narrow = record { same = λ h k s t given. grind (arith, narrow); panel = take_panel deck rate c reply }
+pub narrow_take : (deck : Option Deck) (rate : Rate) (d : Deed) → is_wide d ≡ false → IsNarrow deck rate (Acts d)
+narrow_take deck rate d narrow = record { same = λ h k s t acts. grind (arith, narrow); panel = take_panel deck rate d }
 
 -- a set of states where hands are allowed
 abbrev pub with_hands : Halves → Halves → States
@@ -115,34 +118,14 @@ leads_both deck Goes count v off on narrow whole below first second = both_lead 
           (d, ([], refl), narrow.same hands.Allowed hands.None d t step),
     )
 
--- ---- a step to which a hand makes a difference
+-- ---- a drift alone
 
--- it is the effect of its command, which is acknowledged, asks for nothing and is no preset
-wide_step : (deck : Option Deck) (rate : Rate) (c : Command) (reply : Block) (e : Effect) → effect_taken deck c (Some reply) ≡ e → is_wide e ≡ true
-    → ((d t : State) → DeckStep (touched deck rate) c reply d t ↔ Does (touched deck rate) e d t) × ((n : Presets) → counted e n ≡ n → presets_after c reply true n ≡ n)
-wide_step deck rate c reply e was wide = (
-  λ d t. (λ h. grind (arith, ok, asks_nothing), λ does. done ok.0 (rw asks_nothing tt) (rw ok.1 does)),
-  λ n same. presets_of deck c reply n ok.0 ∙ ap (λ e. counted e n) ok.1 ∙ same,
+drift_reaches : (deck : Option Deck) (v : States) → AreWhole (states_rate v) v → AreBelow v
+    → AreReached (Possible v) (Drift (touched deck (states_rate v))) (Possible (all_drifted deck v))
+drift_reaches deck v whole below = (
+  λ t i. let w = all.reached.0 t i in (w.0, w.1, subst (Drift (touched deck rate) w.0) (sym w.2.2) w.2.1),
+  λ s t i drift. all.reached.1 s t i (t, drift, refl),
 )
-  where
-    ok : (is_nak reply ≡ false) × (effect_of deck c ≡ e)
-    ok = cond_both (is_nak reply) effect.Nothing (effect_of deck c) (λ x. x ≡ e → (is_nak reply ≡ false) × (effect_of deck c ≡ e))
-        (λ nak is. absurd (false≢true (ap is_wide is ∙ wide))) (λ ack is. (ack, is)) was
-
-    asks_nothing : shown_by c reply ≡ sense.Nothing
-    asks_nothing = grind (arith, shows_or_acts deck c reply, ok)
-
--- a drift alone
-pub follows_drift : (deck : Option Deck) (v : States) → AreWhole (states_rate v) v → AreBelow v → FollowsDrift (touched deck (states_rate v)) v (all_drifted deck v)
-follows_drift deck v whole below = record {
-  reached = (
-    λ t i. let w = all.reached.0 t i in (w.0, w.1, subst (Drift (touched deck rate) w.0) (sym w.2.2) w.2.1),
-    λ s t i drift. all.reached.1 s t i (t, drift, refl),
-  );
-  profile = all.profile;
-  whole = all.whole;
-  few = all.few;
-}
   where
     rate : Rate
     rate = states_rate v
@@ -185,7 +168,7 @@ either_from deck v t i = (elim (remains_with_panel_on v) as (λ b. InPart (in_lo
 
 panel_reached : (deck : Option Deck) (on : Bool) (v : States) → AreWhole (states_rate v) v → AreBelow v
     → AreReached (Possible v) (DriftsAndGoes (λ p. Does p (effect.Panel on)) (touched deck (states_rate v))) (Possible (after_panel deck on v))
-panel_reached deck on v whole below = let drifts = (follows_drift deck v whole below).reached in (
+panel_reached deck on v whole below = let drifts = drift_reaches deck v whole below in (
   λ t i.
       let here = (switched_exactly (states_rate v) on (either_panel deck v) t).0 i in let w = either_from deck v t here.1 in let a = drifts.0 (record t { panel = w.0 }) w.1 in
       (a.0, a.1, (record t { panel = w.0 }, a.2, ap (λ b. record t { panel = b }) here.0)),
@@ -193,21 +176,19 @@ panel_reached deck on v whole below = let drifts = (follows_drift deck v whole b
       (either_to deck v d d.panel (drift_state (touched deck (states_rate v)) s d (possible_state (states_rate v) v s whole below i) drift) (drifts.1 s d i drift)))),
 )
 
-pub follows_panel : (deck : Option Deck) (c : Command) (reply : Block) (on : Bool) (v : States) → effect_taken deck c (Some reply) ≡ effect.Panel on → AreWhole (states_rate v) v → AreBelow v
-    → Follows (touched deck (states_rate v)) c (Some reply) v (after_panel deck on v)
-follows_panel deck c reply on v was whole below =
-    let w = wide_step deck (states_rate v) c reply (effect.Panel on) was refl in let goes = panel_reached deck on v whole below in by on (
-      λ t i. let a = goes.0 t i in (a.0, a.1, (a.2.0, a.2.1, (w.0 a.2.0 t).1 a.2.2)),
-      λ s t i step. goes.1 s t i (step.0, step.1, (w.0 step.0 t).0 step.2),
-    ) (λ n few. rw (w.1 n refl) (either_few deck v n few))
+pub follows_panel : (deck : Option Deck) (on : Bool) (v : States) → AreWhole (states_rate v) v → AreBelow v
+    → Follows (touched deck (states_rate v)) (deed.Apply (effect.Panel on) false) v (after_panel deck on v)
+follows_panel deck on v whole below = let goes = panel_reached deck on v whole below in by on (
+  λ t i. let a = goes.0 t i in (a.0, a.1, (a.2.0, a.2.1, inl a.2.2)),
+  λ s t i (d, drift, acts). elim acts [ inl does ↦ goes.1 s t i (d, drift, does) | inr (stays, e) ↦ absurd (false≢true stays) ],
+)
   where
-    by : (on : Bool) → AreReached (Possible v) (DriftsAndGoes (StepOrPass c (Some reply)) (touched deck (states_rate v))) (Possible (after_panel deck on v))
-        → ((n : Presets) → AreFew n v → HalvesFew (presets_after c reply true n) (either_panel deck v))
-        → Follows (touched deck (states_rate v)) c (Some reply) v (after_panel deck on v)
-    by true r few = both_lead deck _ _ v (all_or_none (states_rate v) false) (either_panel deck v) (whole_halves (states_rate v) false) (either_whole deck v whole)
-        (λ n h. (few_halves (states_rate v) _ false, few n h)) r
-    by false r few = both_lead deck _ _ v (either_panel deck v) (all_or_none (states_rate v) false) (either_whole deck v whole) (whole_halves (states_rate v) false)
-        (λ n h. (few n h, few_halves (states_rate v) _ false)) r
+    by : (on : Bool) → AreReached (Possible v) (DriftsAndGoes (Acts (deed.Apply (effect.Panel on) false)) (touched deck (states_rate v))) (Possible (after_panel deck on v))
+        → Follows (touched deck (states_rate v)) (deed.Apply (effect.Panel on) false) v (after_panel deck on v)
+    by true r = both_lead deck _ _ v (all_or_none (states_rate v) false) (either_panel deck v) (whole_halves (states_rate v) false) (either_whole deck v whole)
+        (λ n h. (few_halves (states_rate v) n false, either_few deck v n h)) r
+    by false r = both_lead deck _ _ v (either_panel deck v) (all_or_none (states_rate v) false) (either_whole deck v whole) (whole_halves (states_rate v) false)
+        (λ n h. (either_few deck v n h, few_halves (states_rate v) n false)) r
 
 -- ---- everything is forgotten
 
@@ -238,36 +219,22 @@ leads_forgotten deck Goes count v allowed whole there back counts = by (states_r
 
 -- ---- commands whose reply is not known
 
-passes_back : (deck : Option Deck) (rate : Rate) (e : Effect) (s t : State) → IsState rate s → (t ≡ s) ⊎ Does (untouched deck rate) e s t → DoesOrNot deck rate true e s t
-passes_back deck rate e s t valid h = grind arith
-
--- a drift, and then nothing or the effect
-pub passed_effect : (deck : Option Deck) (rate : Rate) (c : Command) (h g : Halves) → HalvesWhole rate h → HalvesBelow h → HasEffect deck rate true (effect_of deck c) (halves_drifted deck h) g
-    → Taken deck rate c None h g
-passed_effect deck rate c h g whole below has = leads_then rate (Drift (untouched deck rate)) (CanPass (untouched deck rate) c) (λ n. n) (with_command c) h (halves_drifted deck h) g
-    (drift_leads deck rate h whole)
-    (leads_as rate (DoesOrNot deck rate true (effect_of deck c)) (CanPass (untouched deck rate) c) (counted (effect_of deck c)) (with_command c) (halves_drifted deck h) g
-    (λ s t d. elim d [ inl does ↦ inr does | inr (may, stays, e) ↦ inl e ])
-    (λ s t i. passes_back deck rate (effect_of deck c) s t
-    (state_is rate (in_local (halves_drifted deck h) s.local) s (of_rate rate (in_local (halves_drifted deck h) s.local) (whole_in rate (halves_drifted deck h) (drift_whole deck rate h whole) s.local))
-    (drift_below deck h below s.local) i)) (command_counts deck c) has)
-
 -- a state after a passed switch is one of those that stayed, or one of those that the switch leads to
 passed_exactly : (deck : Option Deck) (on : Bool) (v : States) (t : State) → (Possible (panel_passed deck on v) t → Possible (all_drifted deck v) t ⊎ Possible (after_panel deck on v) t)
     × ((IsState (states_rate v) t × Possible (all_drifted deck v) t) ⊎ Possible (after_panel deck on v) t → Possible (panel_passed deck on v) t)
 passed_exactly deck on v t = grind (arith, either_to deck v t t.panel, all_exactly (states_rate v) false t)
 
 -- the panel may be switched
-pub passed_panel : (deck : Option Deck) (c : Command) (on : Bool) (v : States) → effect_of deck c ≡ effect.Panel on → AreWhole (states_rate v) v → AreBelow v
-    → Follows (touched deck (states_rate v)) c None v (panel_passed deck on v)
-passed_panel deck c on v is whole below = by on (
+pub passed_panel : (deck : Option Deck) (on : Bool) (v : States) → AreWhole (states_rate v) v → AreBelow v
+    → Follows (touched deck (states_rate v)) (deed.Apply (effect.Panel on) true) v (panel_passed deck on v)
+passed_panel deck on v whole below = by on (
   λ t i. elim ((passed_exactly deck on v t).0 i) [
-    | inl stays ↦ let a = drifts.0 t stays in (a.0, a.1, (t, a.2, inl refl))
-    | inr goes ↦ let a = (panel_reached deck on v whole below).0 t goes in (a.0, a.1, (a.2.0, a.2.1, inr (rw is a.2.2)))
+    | inl stays ↦ let a = drifts.0 t stays in (a.0, a.1, (t, a.2, inr (refl, refl)))
+    | inr goes ↦ let a = (panel_reached deck on v whole below).0 t goes in (a.0, a.1, (a.2.0, a.2.1, inl a.2.2))
   ],
-  λ s t i (d, drift, can). elim can [
-    | inl e ↦ rw e ((passed_exactly deck on v d).1 (inl (drift_state (touched deck rate) s d (possible_state rate v s whole below i) drift, drifts.1 s d i drift)))
-    | inr does ↦ (passed_exactly deck on v t).1 (inr ((panel_reached deck on v whole below).1 s t i (d, drift, subst (λ e. Does (touched deck rate) e d t) is does)))
+  λ s t i (d, drift, acts). elim acts [
+    | inl does ↦ (passed_exactly deck on v t).1 (inr ((panel_reached deck on v whole below).1 s t i (d, drift, does)))
+    | inr (stays, e) ↦ rw e ((passed_exactly deck on v d).1 (inl (drift_state (touched deck rate) s d (possible_state rate v s whole below i) drift, drifts.1 s d i drift)))
   ],
 )
   where
@@ -275,29 +242,21 @@ passed_panel deck c on v is whole below = by on (
     rate = states_rate v
 
     drifts : AreReached (Possible v) (Drift (touched deck rate)) (Possible (all_drifted deck v))
-    drifts = (follows_drift deck v whole below).reached
+    drifts = drift_reaches deck v whole below
 
-    same : (n : Presets) → with_command c n ≡ n
-    same n = command_counts deck c n ∙ ap (λ e. counted e n) is
-
-    by : (on : Bool) → AreReached (Possible v) (DriftsAndGoes (StepOrPass c None) (touched deck rate)) (Possible (panel_passed deck on v))
-        → Follows (touched deck rate) c None v (panel_passed deck on v)
+    by : (on : Bool) → AreReached (Possible v) (DriftsAndGoes (Acts (deed.Apply (effect.Panel on) true)) (touched deck rate)) (Possible (panel_passed deck on v))
+        → Follows (touched deck rate) (deed.Apply (effect.Panel on) true) v (panel_passed deck on v)
     by true = both_lead deck _ _ v (halves_drifted deck v.off) (either_panel deck v) (drift_whole deck rate v.off whole.off) (either_whole deck v whole)
-        (λ n few. rw (same n) (drift_few deck n v.off (few false), either_few deck v n few))
+        (λ n few. (drift_few deck n v.off (few false), either_few deck v n few))
     by false = both_lead deck _ _ v (either_panel deck v) (all_or_none rate (remains_with_panel_on v)) (either_whole deck v whole) (whole_halves rate (remains_with_panel_on v))
-        (λ n few. rw (same n) (either_few deck v n few, few_halves rate n (remains_with_panel_on v)))
+        (λ n few. (either_few deck v n few, few_halves rate n (remains_with_panel_on v)))
 
-pub follows_forget : (deck : Option Deck) (c : Command) (reply : Option Block) (v : States) → effect_taken deck c reply ≡ effect.Forget Everything → hands_of v ≡ hands.Allowed → AreWhole (states_rate v) v
-    → AreBelow v
-    → Follows (touched deck (states_rate v)) c reply v (if states_remain v then first_states (states_rate v) hands.Allowed else v)
-follows_forget deck c None v is allowed whole below = leads_forgotten deck (DriftsAndGoes (StepOrPass c None) (touched deck (states_rate v))) (counts_after c None) v allowed whole
-    (λ s t valid. (s, ([], refl), inr (rw is (valid, tt))))
-    (λ s t i (d, drift, can). elim can [
-      | inl e ↦ subst (IsState (states_rate v)) (sym e) (drift_state (touched deck (states_rate v)) s d (possible_state (states_rate v) v s whole below i) drift)
-      | inr does ↦
-          (subst (λ e. Does (touched deck (states_rate v)) e d t) is does).0
+pub follows_forget : (deck : Option Deck) (may_stay : Bool) (v : States) → hands_of v ≡ hands.Allowed → AreWhole (states_rate v) v → AreBelow v
+    → Follows (touched deck (states_rate v)) (deed.Apply (effect.Forget Everything) may_stay) v (if states_remain v then first_states (states_rate v) hands.Allowed else v)
+follows_forget deck m v allowed whole below = leads_forgotten deck (DriftsAndGoes (Acts (deed.Apply (effect.Forget Everything) m)) (touched deck (states_rate v))) (λ n. n) v allowed whole
+    (λ s t valid. (s, ([], refl), inl (valid, tt)))
+    (λ s t i (d, drift, acts). elim acts [
+      | inl does ↦ does.0
+      | inr (stays, e) ↦ subst (IsState (states_rate v)) (sym e) (drift_state (touched deck (states_rate v)) s d (possible_state (states_rate v) v s whole below i) drift)
     ])
-    (λ n. command_counts deck c n ∙ ap (λ e. counted e n) is)
-follows_forget deck c (Some reply) v was allowed whole below = let w = wide_step deck (states_rate v) c reply (effect.Forget Everything) was refl in
-    leads_forgotten deck (DriftsAndGoes (StepOrPass c (Some reply)) (touched deck (states_rate v))) (counts_after c (Some reply)) v allowed whole
-    (λ s t valid. (s, ([], refl), (w.0 s t).1 (valid, tt))) (λ s t i goes. ((w.0 goes.0 t).0 goes.2).0) (λ n. w.1 n refl)
+    (λ n. refl)

@@ -1,5 +1,6 @@
 -- The states that a deck may start from, where some fields are known: exactly those, and what a tracker of them keeps.
 use Rattle.track9.proofs.Words.{both, Deck, nat_cmp, entries_of, entry_of, goals_of, has-and, HasState, is_some, List, masked, mode_some, Part, Register}
+use Rattle.track9.proofs.BeforeLemmas.{as_wanted}
 use Rattle.track9.proofs.EffectLemmas.{masked_has}
 use Rattle.track9.proofs.Words.{Allows, and_from, and_parts, AreBelow, arith, begin_count-empty, begin_count-every_time, Bool}
 use Rattle.track9.proofs.Words.{cond_both, entries_known, Entry, false, has, has_pair, if◌then◌else◌, in_local, InPart, is_as_wanted, IsEntry, IsFirst, IsIn}
@@ -23,9 +24,6 @@ entry_is_known rate o e a = grind (arith, set.contains-empty nat_cmp, just_is)
 
 known_entry : (rate : Rate) (o : Option Entry) (e : Entry) → IsEntry rate e → Is o e → Allows (entries_known rate o) e
 known_entry rate o e valid w = grind (arith, entry_exactly, just_self)
-
-local_exactly : (o : Option Bool) (b : Bool) → (is_as_wanted o b ≡ true) ↔ Is o b
-local_exactly o b = grind arith
 
 -- ---- a part
 
@@ -55,10 +53,10 @@ few_from rate n k l r = grind (arith, few_settled n (part_known rate k) (few_par
 
 from_starts : (rate : Rate) (k : Start) (s : State) → InPart (part_from rate k s.local) s → StartsFrom k s
 from_starts rate k s i = cond_both (is_as_wanted k.local s.local) (settled (part_known rate k)) (no_states rate) (λ q. InPart q s → StartsFrom k s)
-    (λ e i. part_starts rate k s ((local_exactly k.local s.local).0 e) ((settled_exactly (part_known rate k) s).0 i)) (λ e i. in_none rate s i) i
+    (λ e i. part_starts rate k s ((as_wanted k.local s.local).0 e) ((settled_exactly (part_known rate k) s).0 i)) (λ e i. in_none rate s i) i
 
 starts_from : (rate : Rate) (k : Start) (s : State) → IsState rate s → StartsFrom k s → InPart (part_from rate k s.local) s
-starts_from rate k s valid w = rw ((local_exactly k.local s.local).1 w.local) ((settled_exactly (part_known rate k) s).1 (starts_in rate k s valid w))
+starts_from rate k s valid w = rw ((as_wanted k.local s.local).1 w.local) ((settled_exactly (part_known rate k) s).1 (starts_in rate k s valid w))
 
 -- the rate of the states
 pub from_rate : (rate : Rate) (k : Start) → states_rate (states_from rate k) ≡ rate

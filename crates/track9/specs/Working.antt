@@ -3,6 +3,7 @@
 pub mod Pattern
 pub mod Codes
 pub mod Deck
+pub mod Deed
 pub mod Entries
 pub mod Knowing
 pub mod Pairs

@@ -5,6 +5,7 @@
 #![tactic(auto)]
 
 mod at_25;
+mod deed;
 mod entries;
 mod following;
 mod halves;

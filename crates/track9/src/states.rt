@@ -9,8 +9,10 @@ ghost use Rattle.std.specs.Prelude.{◌≡◌, IfOk, IsOk, IsTrue, OnErr, OnOk, 
 ghost use Rattle.sets25.specs.Times.{span_count};
 ghost use Rattle.track9.specs.Tracker.{entries_of};
 ghost use Rattle.track9.specs.Working.Starts.{states_from};
-ghost use Rattle.track9.specs.Working.States.{AreBelow, AreWhole, Follows, FollowsDrift, Taken, after_panel, all_drifted, all_or_none, effect_taken, either_panel, first_states, hands_of, is_frugal_taken, remains_with_panel_on, is_wide, panel_passed, part_of, profile_of, states_rate, states_remain};
+ghost use Rattle.track9.specs.Working.Deed.{deed_of, is_frugal_deed, is_wide, no_deed};
+ghost use Rattle.track9.specs.Working.States.{AreBelow, AreWhole, Follows, Taken, after_panel, all_or_none, either_panel, first_states, hands_of, remains_with_panel_on, panel_passed, part_of, profile_of, states_rate, states_remain};
 
+use crate::deed::Deed;
 use crate::halves::Halves;
 use crate::start::Start;
 use block9::{Block, Command};
@@ -144,8 +146,8 @@ impl<S: TimeSet> States<S> {
         }
     }
 
-    /// The states after a command: after a drift and a step, or, where its reply is not known, nothing or the command's effect.
-    /// It answers whether there is one. Where memory is refused nothing has changed.
+    /// The states after a command: after a drift and the deed of its exchange, or of the command alone where its reply is not
+    /// known. It answers whether there is one. Where memory is refused nothing has changed.
     #[inline(always)] // so that whether there is a reply is known where this is called
     pub(crate) fn take(
         &mut self,
@@ -155,73 +157,66 @@ impl<S: TimeSet> States<S> {
         reply: Option<&Block>,
     ) -> Result<bool, AllocError>
         requires { AreWhole (states_rate self.old) self.old }
-        ensures ok { OnOk result (Follows (profile_of deck.now self.old) command.now (option_map (λ b. b.now) reply.entry) self.old self.new) }
+        ensures ok { OnOk result (Follows (profile_of deck.now self.old) (deed_of deck.now (states_rate self.old) command.now (option_map (λ b. b.now) reply.entry)) self.old self.new) }
         ensures some { IfOk result (λ b. b ≡ states_remain self.new) }
         ensures err { OnErr result (self.new ≡ self.old) }
-        ensures frugal { hands_of self.old ≡ Hands.None → IsTrue (is_frugal_taken deck.now command.now (option_map (λ b. b.now) reply.entry)) → IsOk result }
+        ensures frugal { hands_of self.old ≡ Hands.None → IsTrue (is_frugal_deed (deed_of deck.now (states_rate self.old) command.now (option_map (λ b. b.now) reply.entry))) → IsOk result }
     {
+        let rate = self.rate();
         match self.hands() {
-            Hands::None => self.off.take(alloc, deck, command, reply),
+            // decoded here, so that each command goes straight to its effect
+            Hands::None => self
+                .off
+                .take(alloc, deck, &Deed::of(deck, rate, command, reply)),
             Hands::Allowed => {
-                self.take_by_hand(alloc, deck, command, reply)?;
+                self.take_by_hand(alloc, deck, &Deed::of(deck, rate, command, reply))?;
                 Ok(self.remains())
             }
-        }
-    }
-
-    /// The states after a command, where hands are allowed.
-    fn take_by_hand(
-        &mut self,
-        alloc: Global,
-        deck: &DeckRef,
-        command: &Command,
-        reply: Option<&Block>,
-    ) -> Result<(), AllocError>
-        requires whole { AreWhole (states_rate self.old) self.old }
-        requires hands { hands_of self.old ≡ Hands.Allowed }
-        ensures ok { OnOk result (Follows (profile_of deck.now self.old) command.now (option_map (λ b. b.now) reply.entry) self.old self.new) }
-        ensures err { OnErr result (self.new ≡ self.old) }
-    {
-        self.below_day();
-        match effect_taken(deck, command, reply) {
-            Effect::Panel(on) => match reply {
-                Some(_) => self.switch_panel(alloc, deck, on),
-                None => self.pass_panel(alloc, deck, on),
-            },
-            Effect::Forget(Forgotten::Everything) => self.forget_all(alloc),
-            _ => self.take_both(alloc, deck, command, reply),
         }
     }
 
     /// The states after a drift alone. Where memory is refused nothing has changed.
     pub(crate) fn drift(&mut self, alloc: Global, deck: &DeckRef) -> Result<(), AllocError>
         requires { AreWhole (states_rate self.old) self.old }
-        ensures ok { OnOk result (FollowsDrift (profile_of deck.now self.old) self.old self.new) }
+        ensures ok { OnOk result (Follows (profile_of deck.now self.old) no_deed self.old self.new) }
         ensures err { OnErr result (self.new ≡ self.old) }
         ensures frugal { hands_of self.old ≡ Hands.None → IsOk result }
     {
+        let nothing = Deed::nothing();
         match self.hands() {
             Hands::None => {
-                self.off.drift(deck);
+                self.off.take(alloc, deck, &nothing)?;
                 Ok(())
             }
-            Hands::Allowed => {
-                self.below_day();
-                self.drift_by_hand(alloc, deck)
-            }
+            Hands::Allowed => self.take_by_hand(alloc, deck, &nothing),
         }
     }
 
-    /// The states after a drift, where hands are allowed.
-    fn drift_by_hand(&mut self, alloc: Global, deck: &DeckRef) -> Result<(), AllocError>
-        requires { hands_of self.old ≡ Hands.Allowed }
-        ensures ok { OnOk result (self.new ≡ all_drifted deck.now self.old) }
+    /// The states after a drift and a deed, where hands are allowed.
+    fn take_by_hand(&mut self, alloc: Global, deck: &DeckRef, deed: &Deed) -> Result<(), AllocError>
+        requires whole { AreWhole (states_rate self.old) self.old }
+        requires hands { hands_of self.old ≡ Hands.Allowed }
+        ensures ok { OnOk result (Follows (profile_of deck.now self.old) deed.now self.old self.new) }
         ensures err { OnErr result (self.new ≡ self.old) }
     {
-        let on = self.drifted_on(alloc)?;
-        self.off.drift(deck);
-        self.put_on(on);
-        Ok(())
+        self.below_day();
+        match deed {
+            Deed::Apply {
+                effect: Effect::Panel(on),
+                may_stay,
+            } => {
+                if *may_stay {
+                    self.pass_panel(alloc, deck, *on)
+                } else {
+                    self.switch_panel(alloc, deck, *on)
+                }
+            }
+            Deed::Apply {
+                effect: Effect::Forget(Forgotten::Everything),
+                ..
+            } => self.forget_all(alloc),
+            _ => self.take_both(alloc, deck, deed),
+        }
     }
 
     /// What a drift leaves with the panel on: every state, if there was any.
@@ -231,53 +226,27 @@ impl<S: TimeSet> States<S> {
         Halves::all_or_none(alloc, self.rate(), self.remains_with_panel_on())
     }
 
-    /// The states after a command to which a hand on the panel makes no difference: those with the panel on are what it makes of
-    /// everything, if there were any.
-    fn take_both(
-        &mut self,
-        alloc: Global,
-        deck: &DeckRef,
-        command: &Command,
-        reply: Option<&Block>,
-    ) -> Result<(), AllocError>
+    /// The states after a deed to which a hand on the panel makes no difference: those with the panel on are what it makes of
+    /// everything, if there were any, aside.
+    fn take_both(&mut self, alloc: Global, deck: &DeckRef, deed: &Deed) -> Result<(), AllocError>
         requires whole { AreWhole (states_rate self.old) self.old }
         requires hands { hands_of self.old ≡ Hands.Allowed }
-        requires narrow { is_wide (effect_taken deck.now command.now (option_map (λ b. b.now) reply)) ≡ false }
-        ensures ok { OnOk result (Follows (profile_of deck.now self.old) command.now (option_map (λ b. b.now) reply.entry) self.old self.new) }
+        requires narrow { is_wide deed.now ≡ false }
+        ensures ok { OnOk result (Follows (profile_of deck.now self.old) deed.now self.old self.new) }
         ensures err { OnErr result (self.new ≡ self.old) }
     {
         self.below_day();
-        let on = self.taken_on(alloc, deck, command, reply)?;
-        match self.off.take(alloc, deck, command, reply) {
-            Ok(_) => {
-                self.put_on(on);
-                Ok(())
-            }
-            Err(error) => {
-                drop(on);
-                Err(error)
-            }
-        }
-    }
-
-    /// What such a command makes of everything with the panel on, if there was any, aside.
-    fn taken_on(
-        &self,
-        alloc: Global,
-        deck: &DeckRef,
-        command: &Command,
-        reply: Option<&Block>,
-    ) -> Result<Halves<S>, AllocError>
-        ensures { IfOk result (Taken deck.now (states_rate self.now) command.now (option_map (λ b. b.now) reply.entry) (all_or_none (states_rate self.now) (remains_with_panel_on self.now))) }
-    {
         let mut on = self.drifted_on(alloc)?;
-        match on.take(alloc, deck, command, reply) {
-            Ok(_) => Ok(on),
-            Err(error) => {
-                drop(on);
-                Err(error)
-            }
+        if let Err(error) = on.take(alloc, deck, deed) {
+            drop(on);
+            return Err(error);
         }
+        if let Err(error) = self.off.take(alloc, deck, deed) {
+            drop(on);
+            return Err(error);
+        }
+        self.put_on(on);
+        Ok(())
     }
 
     /// What a drift leaves, whatever the panel: every state where the panel was on.
@@ -362,16 +331,6 @@ impl<S: TimeSet> States<S> {
             drop(replace(self, first));
         }
         Ok(())
-    }
-}
-
-/// The effect that a command may have: none where its reply is a NAK.
-fn effect_taken(deck: &DeckRef, command: &Command, reply: Option<&Block>) -> Effect
-    ensures { result ≡ effect_taken deck.now command.now (option_map (λ b. b.now) reply.entry) }
-{
-    match reply {
-        Some(reply) if reply.is_nak() => Effect::Nothing,
-        _ => deck.effect(command),
     }
 }
 

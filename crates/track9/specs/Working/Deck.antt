@@ -6,13 +6,13 @@ pub use Rattle.block9.specs.declared.block.Block.{Block}
 pub use Rattle.block9.specs.declared.command.Command.{Command}
 pub use Rattle.deck9.specs.Contradict.{CanPass, Passes}
 pub use Rattle.deck9.specs.Drift.{Drift, KeepsRest, PairReaches}
-pub use Rattle.deck9.specs.Effect.{Becomes, Does, effect_of, Forgets, KeepsOrGoes, KeepsPanel, moved_entry, switched as panel_switched}
+pub use Rattle.deck9.specs.Effect.{Becomes, Does, effect_of, Forgets, KeepsPanel, moved_entry, switched as panel_switched}
 pub use Rattle.deck9.specs.Local.{is_of_goal_or_register, may_ignore}
-pub use Rattle.deck9.specs.Mode.{is_mode, is_one_of, on_the_way}
+pub use Rattle.deck9.specs.Mode.{is_mode}
 pub use Rattle.deck9.specs.ModeCalls.{both, is_some, KnowsModes, way}
 pub use Rattle.deck9.specs.ModeSet.{bit_of, either, has, modes}
 pub use Rattle.deck9.specs.Shows.{Agrees, AreSet, sense_of, Shows, shown_by, ShowsStatus, Tells}
-pub use Rattle.deck9.specs.State.{entry_of, is_set, IsEntry, IsFirst, IsState, MayBeOn, with_entry}
+pub use Rattle.deck9.specs.State.{entry_of, is_set, IsEntry, IsFirst, IsState, with_entry}
 pub use Rattle.deck9.specs.Status.{status_of}
 pub use Rattle.deck9.specs.Step.{AreReached, DeckStep, done, Exchanges, forgotten_with, Goes, ignored, refused}
 pub use Rattle.block9.specs.Block.{head_of}
@@ -38,8 +38,7 @@ pub use Rattle.deck9.specs.declared.state.Register.TheVariants.{RegAudioIn, RegA
 pub use Rattle.deck9.specs.declared.state.State.{State}
 pub use Rattle.deck9.specs.declared.status.RegistersSet.{RegistersSet}
 pub use Rattle.deck9.specs.declared.status.Status.{Status}
-pub use Rattle.std.specs.Coded.{code_by, Coded, coded_bool, coded_list, coded_option, coded_ℕ, coded×}
-pub use Rattle.std.specs.Prelude.{[], bit_and, bit_or, Bool, false, List, None, not, Option, option_map, refl, Some, true, ℕ, ⊤}
+pub use Rattle.std.specs.Prelude.{[], Bool, false, List, None, not, Option, option_map, Some, true, ℕ}
 pub use Rattle.tc25.specs.Day.{day, next_frame, prev_frame, time_of}
 pub use Rattle.sets25.specs.Times.{begin_count, BelowDay, every_time, image, just, just_of, Times, with_time}
 pub use Rattle.track9.specs.Presets.{count_of, Presets, presets_after, with_command, with_one}

@@ -1,6 +1,6 @@
 -- Which states an effect may have led from: a pattern of fields, each fixed or free.
 use Rattle.std.specs.Prelude.{if◌then◌else◌, nat_lt, ◌==◌, ◌≡◌, ◌⊎◌}
-use Rattle.track9.specs.Working.Deck.{Pattern, At, bit_of, Bool, both, Change, Clear, Command, day, Deck, Does, Drift, Effect, effect_of, Entry, entry_of, false, Forgotten, Hands, has, has_pair, is_some, IsState, KeepsRest}
+use Rattle.track9.specs.Working.Deck.{Pattern, At, bit_of, Bool, both, Change, Clear, Command, day, Deck, Does, Drift, Effect, effect_of, Entry, false, Forgotten, Hands, has, has_pair, is_some, IsState, KeepsRest}
 use Rattle.track9.specs.Working.Deck.{List, may_ignore, Mode, modes, ModeSet, moved_entry, Next, next_frame, None, Option, option_map, Pair, PairReaches, Prev, prev_frame, Profile, Rate}
 use Rattle.track9.specs.Working.Deck.{Recall, RegAudioIn, RegAudioOut, RegIn, Register, RegOut, Reset, SetAt, SetSomewhere, Some, State, true}
 use Rattle.deck9.specs.declared.deck.Forgotten.TheVariants as forgotten

@@ -1,6 +1,6 @@
 -- The states that a deck may start from, factor by factor.
 use Rattle.std.specs.Prelude.{if◌then◌else◌}
-use Rattle.track9.specs.Working.Deck.{At, bit_of, Bool, Clear, Entries, Entry, false, has, just_of, List, Mode, modes, ModeSet, None, Option, Part, Rate, Some, States, true, Halves}
+use Rattle.track9.specs.Working.Deck.{At, bit_of, Bool, Clear, Entries, Entry, false, just_of, Mode, modes, ModeSet, None, Option, Part, Rate, Some, States, true, Halves}
 use Rattle.track9.specs.Working.Pattern.{is_as_wanted}
 use Rattle.track9.specs.Working.Entries.{all_entries, entries}
 use Rattle.track9.specs.Working.Pairs.{pairs_of}

@@ -1,13 +1,13 @@
 -- How a set of states changes.
-use Rattle.std.specs.Prelude.{if◌then◌else◌, ◌+◌, ◌||◌, ◌≡◌, ◌≤◌, ◌⊎◌}
-use Rattle.track9.specs.Working.Deck.{AreReached, begin_count, BelowDay, Block, Bool, CanPass, Change, Command, count_of, Deck, Does, Drift, Effect, effect_of, entries_of, false, Hands}
-use Rattle.track9.specs.Working.Deck.{in_local, InPart, is_nak, is_of_goal_or_register, Mode, ModeSet, None, Option, Part, Possible, Presets, Profile, Rate}
-use Rattle.track9.specs.Working.Deck.{presets_after, Register, SetAt, Some, State, States, Status, DeckStep, true, Halves, with_command, with_one, ℕ}
+use Rattle.std.specs.Prelude.{if◌then◌else◌, ◌+◌, ◌||◌, ◌≡◌, ◌≤◌}
+use Rattle.track9.specs.Working.Deck.{AreReached, begin_count, BelowDay, Bool, Change, count_of, Deck, Drift, Effect, entries_of, false, Hands}
+use Rattle.track9.specs.Working.Deck.{in_local, InPart, Mode, ModeSet, None, Option, Part, Possible, Presets, Profile, Rate}
+use Rattle.track9.specs.Working.Deck.{Register, Some, State, States, Status, true, Halves, ℕ}
 use Rattle.track9.specs.Working.Deck.{Forgets, Forgotten}
 use Rattle.deck9.specs.declared.deck.Forgotten.TheVariants as forgotten
-use Rattle.deck9.specs.declared.effect.Effect.TheVariants as effect
 use Rattle.deck9.specs.declared.state.Hands.TheVariants as hands
-use Rattle.track9.specs.Frugal.{is_frugal, is_frugal_effect}
+use Rattle.track9.specs.Working.Deed.{Acts, counted, counts_after, DoesOrStays}
+use Rattle.track9.specs.declared.deed.Deed.{Deed}
 use Rattle.track9.specs.Working.Entries.{agreeing}
 use Rattle.track9.specs.Working.Pairs.{all_pairs}
 use Rattle.track9.specs.Working.Parts.{Whole, all_states, aside, changed_entries, changed_part, drifted_part, forgotten_part, gone_part, kept_or_gone_part, part_remains, no_states, put_settled, part_rate, status_part, where_remains, with_pairs}
@@ -96,15 +96,6 @@ halves_forgotten forgotten.Everything h = all_forgotten h
 abbrev pub untouched : Option Deck → Rate → Profile
 untouched deck rate = record { rate = rate; hands = hands.None; deck = deck }
 
--- an effect where nobody touches the panel, or a deck in LOCAL that ignores it, or any where it may
-abbrev pub DoesOrNot : Option Deck → Rate → Bool → Effect → State → State → Type 0
-DoesOrNot deck rate may_stay e s t = Does (untouched deck rate) e s t ⊎ ((is_of_goal_or_register e ≡ true) × ((s.local || may_stay) ≡ true) × (t ≡ s))
-
--- the counts after an effect
-abbrev pub counted : Effect → Presets → Presets
-counted (effect.Change r (SetAt t)) n = with_one r n
-counted _ n = n
-
 -- the states after what leads from a state to others
 pub record LeadsOn (rate : Rate) (Goes : State → State → Type 0) (count : Presets → Presets) (h g : Halves) : Type 0 where
   pub reached : (pn : Bool) → AreReached (InHalves pn h) Goes (InHalves pn g)
@@ -113,35 +104,15 @@ pub record LeadsOn (rate : Rate) (Goes : State → State → Type 0) (count : Pr
 
 -- the states after an effect
 abbrev pub HasEffect : Option Deck → Rate → Bool → Effect → Halves → Halves → Type 0
-HasEffect deck rate may_stay e h g = LeadsOn rate (DoesOrNot deck rate may_stay e) (counted e) h g
+HasEffect deck rate may_stay e h g = LeadsOn rate (DoesOrStays (untouched deck rate) may_stay e) (counted e) h g
 
 -- a drift, and then a step
 abbrev pub DriftsAndGoes : (Profile → State → State → Type 0) → Profile → State → State → Type 0
 DriftsAndGoes Goes p s t = (d : State) × Drift p s d × Goes p d t
 
--- what a command does after the drift: the step with its reply, or what it may do where that is not known
-abbrev pub StepOrPass : Command → Option Block → Profile → State → State → Type 0
-StepOrPass command None p s t = CanPass p command s t
-StepOrPass command (Some reply) p s t = DeckStep p command reply s t
-
--- the counts after it
-abbrev pub counts_after : Command → Option Block → Presets → Presets
-counts_after command None n = with_command command n
-counts_after command (Some reply) n = presets_after command reply true n
-
--- the effect that it may have: none where its reply is a NAK
-abbrev pub effect_taken : Option Deck → Command → Option Block → Effect
-effect_taken deck command None = effect_of deck command
-effect_taken deck command (Some reply) = if is_nak reply then effect.Nothing else effect_of deck command
-
--- it takes no memory where hands are not allowed
-abbrev pub is_frugal_taken : Option Deck → Command → Option Block → Bool
-is_frugal_taken deck command None = is_frugal_effect (effect_of deck command)
-is_frugal_taken deck command (Some reply) = is_frugal deck command reply
-
--- the states after it where nobody touches the panel
-abbrev pub Taken : Option Deck → Rate → Command → Option Block → Halves → Halves → Type 0
-Taken deck rate command reply h g = LeadsOn rate (DriftsAndGoes (StepOrPass command reply) (untouched deck rate)) (counts_after command reply) h g
+-- the states after a drift and a deed, where nobody touches the panel
+abbrev pub Taken : Option Deck → Rate → Deed → Halves → Halves → Type 0
+Taken deck rate d h g = LeadsOn rate (DriftsAndGoes (Acts d) (untouched deck rate)) (counts_after d) h g
 
 -- ---- all states
 
@@ -202,12 +173,6 @@ first_on rate hands.Allowed = Some (all_or_none rate true)
 abbrev pub first_states : Rate → Hands → States
 first_states rate h = record { off = all_or_none rate true; on = first_on rate h }
 
--- an effect to which a hand on the panel makes a difference
-abbrev pub is_wide : Effect → Bool
-is_wide (effect.Panel on) = true
-is_wide (effect.Forget forgotten.Everything) = true
-is_wide _ = false
-
 -- the states after a drift, put together whatever the panel: where it may have been on, a hand may have done anything
 abbrev pub either_panel : Option Deck → States → Halves
 either_panel deck v = if remains_with_panel_on v then all_or_none (states_rate v) true else halves_drifted deck v.off
@@ -241,13 +206,9 @@ pub record AllLeadOn (p : Profile) (Goes : State → State → Type 0) (count : 
   pub whole : AreWhole p.rate w
   pub few : (n : Presets) → AreFew n v → AreFew (count n) w
 
--- the states after a drift
-abbrev pub FollowsDrift : Profile → States → States → Type 0
-FollowsDrift p v w = AllLeadOn p (Drift p) (λ n. n) v w
-
--- the states after a command
-abbrev pub Follows : Profile → Command → Option Block → States → States → Type 0
-Follows p command reply v w = AllLeadOn p (DriftsAndGoes (StepOrPass command reply) p) (counts_after command reply) v w
+-- the states after a drift and a deed
+abbrev pub Follows : Profile → Deed → States → States → Type 0
+Follows p d v w = AllLeadOn p (DriftsAndGoes (Acts d) p) (counts_after d) v w
 
 -- the states after something is forgotten, whatever deck it is
 abbrev pub AreForgotten : Forgotten → States → States → Type 0

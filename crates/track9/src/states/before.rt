@@ -62,7 +62,7 @@ impl<S: TimeSet> States<S> {
         self.origin(deck, &before)
     }
 
-    /// A state from which a drift leads to one of those that are wanted, in LOCAL, where a deck in LOCAL may ignore the command.
+    /// Where a deck in LOCAL may ignore the command: a state from which a drift leads to a wanted one that is in LOCAL.
     fn ignored_origin(&self, deck: &DeckRef, command: &Command, wanted: &Pattern) -> Option<State>
         requires whole { AreWhole (states_rate self.now) self.now }
         requires wanted { IsPattern (states_rate self.now) wanted.now }

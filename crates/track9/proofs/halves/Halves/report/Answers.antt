@@ -2,4 +2,4 @@ use Rattle.track9.proofs.Words.{refl}
 use Rattle.track9.proofs.halves.Halves.report.Goals as goal
 
 pub returns-clause-kept : goal.returns-clause-kept
-returns-clause-kept g c = rw (c.keep_status.ensures, c.of.ensures, c.drift.ensures.drifted) refl
+returns-clause-kept g c = rw (c.keep_status.ensures, c.drift.ensures.drifted) refl
