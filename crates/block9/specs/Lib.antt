@@ -4,6 +4,7 @@ pub mod Nak
 pub mod Line
 pub mod Exchange
 pub mod Reason
+pub mod NextPart
 pub mod Replies
 pub mod Pairer
 pub mod Working

@@ -15,7 +15,7 @@ const MOST_DATA: usize = 15;
 ///
 /// Its bytes on the line are: the group and the number of data bytes in one byte, the code, the data, and the checksum,
 /// which is the sum of all these bytes modulo 256 (the protocol manual).
-#[derive(Debug, Drop, PartialEq, Eq)]
+#[derive(Drop, PartialEq, Eq)]
 pub struct Block {
     /// The high four bits of the first byte, so below 16: what kind of message it is.
     pub group: u8,

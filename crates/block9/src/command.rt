@@ -14,7 +14,7 @@ use tc25::{Rate, TimeCode};
 ///
 /// There is a variant for each name in the protocol manual's tables that the rules list, and one for
 /// all other commands.
-#[derive(Clone, Copy, Debug, PartialEq, Eq)]
+#[derive(Clone, Copy, PartialEq, Eq)]
 pub enum Command {
     /// LOCAL DISABLE: the deck's panel is switched off.
     LocalDisable,

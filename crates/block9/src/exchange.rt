@@ -6,7 +6,7 @@ use crate::block::Block;
 use crate::command::Command;
 
 /// A complete command and its complete reply.
-#[derive(Debug, Drop, PartialEq, Eq)]
+#[derive(Drop, PartialEq, Eq)]
 pub struct Exchange {
     /// What the command's block means.
     pub command: Command,

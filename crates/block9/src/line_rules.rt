@@ -4,7 +4,7 @@ use crate::replies::NamedReplies;
 use tc25::Rate;
 
 /// Whether a reply that begins after the reply limit, [`crate::REPLY_LIMIT_US`], breaks a rule.
-#[derive(Clone, Copy, Debug, PartialEq, Eq)]
+#[derive(Clone, Copy, PartialEq, Eq)]
 pub enum ReplyLimit {
     /// It does, and the record with which it begins is refused.
     Counts,

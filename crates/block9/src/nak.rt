@@ -6,7 +6,7 @@ use bitflags::{Flag, Flags};
 /// Why the deck refused a command: the byte of a NAK, with a bit for each reason.
 ///
 /// The names of the bits are a choice of these rules; bits 1 and 3 have none.
-#[derive(Clone, Copy, Debug, PartialEq, Eq)]
+#[derive(Clone, Copy, PartialEq, Eq)]
 pub struct NakBits(u8);
 
 impl NakBits {

@@ -3,7 +3,7 @@
 use crate::command::Command;
 
 /// What is open from a command's first record to its reply's last one, as a pairer knows it.
-#[derive(Clone, Copy, Debug, PartialEq, Eq)]
+#[derive(Clone, Copy, PartialEq, Eq)]
 pub struct Open {
     /// What the command means, where it is complete.
     pub command: Option<Command>,

@@ -4,7 +4,7 @@ use crate::place::Place;
 use capture9::Wire;
 
 /// What a pairer keeps of the block that is open at the end of its tail, so that it reads no record again before the block's end.
-#[derive(Clone, Copy, Debug, PartialEq, Eq)]
+#[derive(Clone, Copy, PartialEq, Eq)]
 pub(crate) struct OpenBlock {
     /// The wire whose turn it is: the controller's for a command, the deck's for its reply.
     pub(crate) wire: Wire,

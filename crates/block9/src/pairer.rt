@@ -69,7 +69,7 @@ impl<'a> Model for Pairer<'a> {
 }
 
 /// What a record does that keeps the rules.
-#[derive(Clone, Copy, Debug, PartialEq, Eq)]
+#[derive(Clone, Copy, PartialEq, Eq)]
 pub enum Step {
     /// It begins a block or goes on with one.
     Waiting,

@@ -1,7 +1,7 @@
 //! Where the open records stand between a command and its reply.
 
 /// Where a tail stands: the records since the last complete exchange.
-#[derive(Clone, Copy, Debug, PartialEq, Eq)]
+#[derive(Clone, Copy, PartialEq, Eq)]
 pub(crate) enum Place {
     /// No command is begun.
     Idle,

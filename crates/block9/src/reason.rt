@@ -7,7 +7,7 @@ use crate::{BYTE_GAP_US, REPLY_LIMIT_US};
 ///
 /// Where a record breaks several rules, the first of these counts: the wire whose turn it is, the time,
 /// the group, the sum, the command's time, the kind of the reply, the reply's time, the deck's behaviour.
-#[derive(Clone, Copy, Debug, PartialEq, Eq)]
+#[derive(Clone, Copy, PartialEq, Eq)]
 pub enum Reason {
     /// B1: the first byte of a block has a group that its wire does not allow.
     WrongGroup,

@@ -3,7 +3,7 @@
 use crate::reason::Reason;
 
 /// Why a [`crate::Pairer`] refuses a record.
-#[derive(Clone, Copy, Debug, PartialEq, Eq)]
+#[derive(Clone, Copy, PartialEq, Eq)]
 pub struct Refusal {
     /// The rule that the record breaks.
     pub reason: Reason,

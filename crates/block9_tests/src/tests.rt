@@ -17,11 +17,6 @@ use std::process::Abort;
 ///
 /// The tests hold all their values by this call: the proof of a function with a call costs a part of that of one with
 /// an assertion.
-fn same<T: PartialEq + Debug + Drop, C: Debug + Drop>(
-    rt: &impl Abort,
-    found: T,
-    wanted: T,
-    case: C,
-) {
-    assert_eq!(rt; found, wanted, "{case:?}");
+fn same<T: PartialEq + Drop, C: Debug + Drop>(rt: &impl Abort, found: T, wanted: T, case: C) {
+    assert!(rt; found == wanted, "{case:?}");
 }

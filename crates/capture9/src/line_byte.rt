@@ -1,7 +1,7 @@
 //! One captured byte of the line.
 
 /// The wire that a byte was captured on.
-#[derive(Clone, Copy, Debug, Default, PartialEq, Eq)]
+#[derive(Clone, Copy, Default, PartialEq, Eq)]
 pub enum Wire {
     /// From the controller to the deck.
     #[default]
@@ -11,7 +11,7 @@ pub enum Wire {
 }
 
 /// One captured byte, with its time and wire: a data row of a capture.
-#[derive(Clone, Copy, Debug, Default, PartialEq, Eq)]
+#[derive(Clone, Copy, Default, PartialEq, Eq)]
 pub struct LineByte {
     /// When the byte was captured, in microseconds from a start of the tap's choice. Below 10^15 in a
     /// record that was read.

@@ -20,7 +20,7 @@ use std::io::Read;
 use std::marker::Model;
 
 /// Whether a `Records` reads on, as a contract sees it.
-#[derive(Clone, Copy, Debug, PartialEq, Eq)]
+#[derive(Clone, Copy, PartialEq, Eq)]
 pub enum Standing {
     /// It reads on.
     Reading,

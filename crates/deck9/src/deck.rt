@@ -8,7 +8,7 @@ use smallvec::SmallVec;
 use std::collections::BTreeMap;
 
 /// What becomes anything at a command that is not listed, or at any beside its effect. All else stays.
-#[derive(Clone, Copy, Debug, PartialEq, Eq)]
+#[derive(Clone, Copy, PartialEq, Eq)]
 pub enum Forgotten {
     /// Nothing.
     Nothing,

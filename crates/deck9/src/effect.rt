@@ -7,7 +7,7 @@ use block9::Command;
 use tc25::TimeCode;
 
 /// What becomes of a register.
-#[derive(Clone, Copy, Debug, PartialEq, Eq)]
+#[derive(Clone, Copy, PartialEq, Eq)]
 pub enum Change {
     /// Set, at any time: the deck takes its current time, which nobody knows.
     SetSomewhere,
@@ -24,7 +24,7 @@ pub enum Change {
 }
 
 /// What a command does to the deck. The effects are a choice of these rules.
-#[derive(Clone, Copy, Debug, PartialEq, Eq)]
+#[derive(Clone, Copy, PartialEq, Eq)]
 pub enum Effect {
     /// Nothing changes. An unlisted command never has this effect: it has `KeepOr` or `Forget`.
     Nothing,

@@ -3,7 +3,7 @@ use crate::mode::Mode;
 use tc25::TimeCode;
 
 /// What is known of a field.
-#[derive(Clone, Copy, Debug, PartialEq, Eq)]
+#[derive(Clone, Copy, PartialEq, Eq)]
 pub enum Known<T> {
     /// All possible states have this value.
     Is(T),
@@ -12,7 +12,7 @@ pub enum Known<T> {
 }
 
 /// What is known of a register.
-#[derive(Clone, Copy, Debug, PartialEq, Eq)]
+#[derive(Clone, Copy, PartialEq, Eq)]
 pub enum KnownEntry {
     /// It is Clear in all possible states.
     Clear,
@@ -25,7 +25,7 @@ pub enum KnownEntry {
 }
 
 /// What is known of the deck.
-#[derive(Clone, Copy, Debug, PartialEq, Eq)]
+#[derive(Clone, Copy, PartialEq, Eq)]
 pub struct Knowledge {
     /// The commanded mode.
     pub goal: Known<Mode>,

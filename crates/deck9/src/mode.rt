@@ -4,7 +4,7 @@ ghost use Rattle.std.specs.Prelude.{◌≡◌, ◌<◌};
 /// A mode of the transport: the commanded one, or the one that the status shows.
 ///
 /// The ten modes are a choice of these rules.
-#[derive(Clone, Copy, Debug, PartialEq, Eq)]
+#[derive(Clone, Copy, PartialEq, Eq)]
 pub enum Mode {
     /// Stopped.
     Stop,

@@ -5,7 +5,7 @@ use crate::mode::Mode;
 use bitflags::{Flag, Flags};
 
 /// A set of modes, a bit for each.
-#[derive(Clone, Copy, Debug, PartialEq, Eq)]
+#[derive(Clone, Copy, PartialEq, Eq)]
 pub struct ModeSet(u16);
 
 impl ModeSet {

@@ -3,7 +3,7 @@ use crate::state::Register;
 use block9::{Block, Command};
 
 /// What a command asks for of the deck's state.
-#[derive(Clone, Copy, Debug, PartialEq, Eq)]
+#[derive(Clone, Copy, PartialEq, Eq)]
 pub enum Sense {
     /// The time of a register.
     Register(Register),

@@ -4,7 +4,7 @@ use crate::mode::Mode;
 use tc25::{Rate, TimeCode};
 
 /// A register of the deck.
-#[derive(Clone, Copy, Debug, PartialEq, Eq)]
+#[derive(Clone, Copy, PartialEq, Eq)]
 pub enum Register {
     /// The edit's first frame.
     RegIn,
@@ -17,7 +17,7 @@ pub enum Register {
 }
 
 /// What a register holds.
-#[derive(Clone, Copy, Debug, PartialEq, Eq)]
+#[derive(Clone, Copy, PartialEq, Eq)]
 pub enum Entry {
     /// Nothing.
     Clear,
@@ -26,7 +26,7 @@ pub enum Entry {
 }
 
 /// Whether hands may touch the deck's panel during a capture.
-#[derive(Clone, Copy, Debug, PartialEq, Eq)]
+#[derive(Clone, Copy, PartialEq, Eq)]
 pub enum Hands {
     /// Nobody touches it.
     None,
@@ -35,7 +35,7 @@ pub enum Hands {
 }
 
 /// A state of the deck.
-#[derive(Clone, Copy, Debug, PartialEq, Eq)]
+#[derive(Clone, Copy, PartialEq, Eq)]
 pub struct State {
     /// The commanded mode.
     pub goal: Mode,

@@ -10,7 +10,7 @@ use crate::mode_set::ModeSet;
 use block9::Block;
 
 /// What a reply to STATUS SENSE reports of a deck, each part only where the reply carries its data.
-#[derive(Clone, Copy, Debug, PartialEq, Eq)]
+#[derive(Clone, Copy, PartialEq, Eq)]
 pub struct Status {
     /// Whether the deck is in LOCAL, by datum 0.
     pub local: Option<bool>,
@@ -21,7 +21,7 @@ pub struct Status {
 }
 
 /// Which registers are Set.
-#[derive(Clone, Copy, Debug, PartialEq, Eq)]
+#[derive(Clone, Copy, PartialEq, Eq)]
 pub struct RegistersSet {
     /// Whether the register IN is.
     pub ins: bool,

@@ -1,7 +1,7 @@
 //! The facts of a capture, a line each: a name, a colon and a value.
 
 use crate::signs::Signs;
-use crate::text::{put_seconds, put_tenths, rate_word};
+use crate::text::{put_seconds, put_tenths};
 use crate::wire_counts::WireCounts;
 use report9::{put_count, put_text};
 use std::alloc::AllocError;
@@ -94,7 +94,7 @@ fn put_running(text: &mut Vec<u8>, signs: &Signs) -> Result<(), AllocError> {
     put_text(text, " to ")?;
     put_tenths(text, elapsed)?;
     put_text(text, " at --rate ")?;
-    put_text(text, rate_word(signs.rate))?;
+    put_text(text, signs.rate.word())?;
     put_count(text, ", in seconds that run: ", running.seconds)?;
     put_text(text, "\n")
 }

@@ -15,7 +15,7 @@ const IN_SECOND: u32 = 30;
 const DROP_FRAME: u8 = 0x40;
 
 /// A time that was told.
-#[derive(Clone, Copy, Debug)]
+#[derive(Clone, Copy)]
 pub(crate) struct Label {
     /// The first record of the block that tells it.
     pub(crate) place: Place,

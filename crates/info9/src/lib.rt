@@ -28,4 +28,3 @@ pub use place::Place;
 pub use rates::{Fitting, RateSeen};
 pub use sign::{Seeming, Sign};
 pub use signs::Signs;
-pub use text::rate_word;

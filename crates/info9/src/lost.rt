@@ -6,7 +6,7 @@ use block9::BYTE_TIME_US;
 use capture9::Wire;
 
 /// A block that lacks a byte.
-#[derive(Clone, Copy, Debug, PartialEq, Eq)]
+#[derive(Clone, Copy, PartialEq, Eq)]
 pub struct LostByte {
     /// The first record of what there is of the block.
     pub block: Place,
@@ -17,7 +17,7 @@ pub struct LostByte {
 }
 
 /// The blocks of a wire that lack a byte.
-#[derive(Clone, Copy, Debug, PartialEq, Eq)]
+#[derive(Clone, Copy, PartialEq, Eq)]
 pub(crate) struct LostBytes {
     pub(crate) first: Option<LostByte>,
     pub(crate) blocks: u64,

@@ -3,7 +3,7 @@
 use capture9::Wire;
 
 /// A record of the capture.
-#[derive(Clone, Copy, Debug, Default, PartialEq, Eq)]
+#[derive(Clone, Copy, Default, PartialEq, Eq)]
 pub struct Place {
     /// Its number, counted from 1.
     pub record: u32,
@@ -12,7 +12,7 @@ pub struct Place {
 }
 
 /// A byte on its wire.
-#[derive(Clone, Copy, Debug, Default, PartialEq, Eq)]
+#[derive(Clone, Copy, Default, PartialEq, Eq)]
 pub(crate) struct Seen {
     pub(crate) place: Place,
     pub(crate) byte: u8,

@@ -7,7 +7,7 @@ use crate::told::Told;
 use tc25::Rate;
 
 /// What speaks against the rate that is asked with.
-#[derive(Clone, Copy, Debug, PartialEq, Eq)]
+#[derive(Clone, Copy, PartialEq, Eq)]
 pub enum RateSeen {
     /// A time with this frame of a second is told, which the rate does not have.
     Frame(u32),
@@ -20,7 +20,7 @@ pub enum RateSeen {
 }
 
 /// The rates that fit.
-#[derive(Clone, Copy, Debug, PartialEq, Eq)]
+#[derive(Clone, Copy, PartialEq, Eq)]
 pub enum Fitting {
     /// This one.
     One(Rate),

@@ -9,7 +9,7 @@ use std::alloc::AllocError;
 use tc25::Rate;
 
 /// Something in a capture to look at before anybody is blamed.
-#[derive(Clone, Copy, Debug, PartialEq, Eq)]
+#[derive(Clone, Copy, PartialEq, Eq)]
 pub struct Sign {
     /// The record that it names.
     pub at: Place,
@@ -18,7 +18,7 @@ pub struct Sign {
 }
 
 /// What was seen. Times are in microseconds.
-#[derive(Clone, Copy, Debug, PartialEq, Eq)]
+#[derive(Clone, Copy, PartialEq, Eq)]
 pub enum Seeming {
     /// Blocks of a deck's groups come on the controller's wire, and of a controller's on the deck's: so many of each.
     WiresSwapped {

@@ -10,7 +10,7 @@ const FEWEST_COMMANDS: u32 = 2;
 const SHORTEST_US: u64 = 100_000;
 
 /// A time without a byte on a wire.
-#[derive(Clone, Copy, Debug, Default, PartialEq, Eq)]
+#[derive(Clone, Copy, Default, PartialEq, Eq)]
 pub(crate) struct Silence {
     /// How long it is, in microseconds.
     pub(crate) us: u64,

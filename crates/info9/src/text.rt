@@ -1,6 +1,4 @@
 //! Texts that facts and signs share.
-ghost use Rattle.std.specs.Prelude.{◌≡◌};
-ghost use Rattle.info9.specs.Words.{rate_word};
 
 use crate::rates::{Fitting, RateSeen};
 use report9::{TextBuffer, put_count, put_text};
@@ -31,18 +29,6 @@ pub(crate) fn put_tenths(line: &mut Vec<u8>, thousandths: u64) -> Result<(), All
     let tenths = thousandths.saturating_add(50) / 100;
     put_count(line, "", tenths / 10)?;
     put_count(line, ".", tenths % 10)
-}
-
-/// The word of a rate on the command line.
-pub fn rate_word(rate: Rate) -> &'static str
-    ensures { result.now ≡ rate_word rate }
-{
-    match rate {
-        Rate::Fps24 => "24",
-        Rate::Fps25 => "25",
-        Rate::Fps30 => "30",
-        Rate::DropFrame => "29.97df",
-    }
 }
 
 /// Puts the rates that fit, as options.
@@ -81,5 +67,5 @@ pub(crate) fn put_rate_seen(
 /// Puts a rate as an option.
 fn put_rate(line: &mut Vec<u8>, rate: Rate) -> Result<(), AllocError> {
     put_text(line, "--rate ")?;
-    put_text(line, rate_word(rate))
+    put_text(line, rate.word())
 }

@@ -35,7 +35,8 @@ pub use Rattle.report9.specs.declared.verdict.Beginning.TheVariants.{the_data as
 pub use Rattle.judge9.specs.Verdict.{Applies, AreCounts, Breaks, counting, IsFirstBreak, IsOk, line_rules, Terms}
 pub use Rattle.why9.specs.Shown.{CouldShow}
 pub use Rattle.track9.specs.Following.{KeepsEnds}
-pub use Rattle.judge9.specs.Beginning.{begins_next_part, from_command, judged_from, judged_rows, may_begin, passed_before, Rest, rest_after, takes_up_at}
+pub use Rattle.block9.specs.NextPart.{begins_next_part, may_begin, takes_up_at}
+pub use Rattle.judge9.specs.Beginning.{from_command, judged_from, judged_rows, passed_before, Rest, rest_after}
 pub use Rattle.judge9.specs.Parts.{AreParts, AreTotals, BrokenPart, exchanges_of, in_parts, IsPart, number_of, Part}
 pub use Rattle.judge9.specs.Parts.Event.{exchange, late_reply}
 pub use Rattle.judge9.specs.Parts.{AreEvents, AreEventsAt, Event, events_of, IsEvent, late_replies}

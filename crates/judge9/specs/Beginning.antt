@@ -1,18 +1,11 @@
 -- Where the judging of a capture begins, and where it takes up again after a break.
-use Rattle.std.specs.Prelude.{ℕ, ◌+◌, nat_lt, not, ◌&&◌, ◌||◌, Bool, true, false, if◌then◌else◌, List, [], ◌∷◌, Option, None, Some}
+use Rattle.std.specs.Prelude.{ℕ, ◌+◌, if◌then◌else◌, List, [], ◌∷◌, Option, None, Some}
 use Rattle.capture9.specs.declared.line_byte.LineByte.{LineByte}
 use Rattle.capture9.specs.Rows.{Rows}
 use Rattle.block9.specs.declared.reason.Reason.{Reason}
-use Rattle.block9.specs.declared.reason.Reason.TheVariants.{ByteGap, CommandBeforeReply, CommandInsideReply, NoReply}
-use Rattle.block9.specs.Line.{byte_gap, is_commands_wire}
+use Rattle.block9.specs.NextPart.{begins_next_part, may_begin}
 use Rattle.report9.specs.declared.verdict.Beginning.{Beginning}
 use Rattle.report9.specs.declared.verdict.Beginning.TheVariants.{FirstCommand, FirstRecord}
-
--- a record that comes after `last` may be the first of a command: it comes on the controller's wire, and after a record of the
--- deck or after the byte gap. The first record of a capture never may: nobody knows what came before it
-abbrev pub may_begin : Option LineByte → LineByte → Bool
-may_begin None next = false
-may_begin (Some last) next = is_commands_wire next.wire && (not (is_commands_wire last.wire) || nat_lt (last.time_us + byte_gap) next.time_us)
 
 -- records of a capture that are still to be judged, and how many records of it come before them
 pub record Rest : Type 0 where
@@ -42,19 +35,6 @@ abbrev pub passed_before : Beginning → Rows → ℕ
 passed_before beginning rows = (judged_from beginning rows.records).past
 
 -- ---- where it takes up again
-
--- the reasons for which a command may begin at the record that breaks: it comes where a reply is to come or to end, or after
--- the byte gap
-abbrev pub takes_up_at : Reason → Bool
-takes_up_at CommandBeforeReply = true
-takes_up_at NoReply = true
-takes_up_at CommandInsideReply = true
-takes_up_at ByteGap = true
-takes_up_at _ = false
-
--- the record that breaks is itself the first of the next part
-abbrev pub begins_next_part : Reason → LineByte → Bool
-begins_next_part reason breaking = takes_up_at reason && is_commands_wire breaking.wire
 
 -- what the next part begins with after a break for this reason: so many records come before the one that breaks, and these after it
 abbrev pub rest_after : ℕ → Reason → LineByte → List LineByte → Rest

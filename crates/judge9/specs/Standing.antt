@@ -11,6 +11,7 @@ use Rattle.block9.specs.Exchange.{BeginsLate, Outcome, TellsLate, records_in}
 use Rattle.block9.specs.Pairer.{Refuses, Takes}
 use Rattle.block9.specs.declared.line_rules.ReplyLimit.TheVariants.{LeftAside}
 use Rattle.block9.specs.declared.reason.Reason.TheVariants.{NoRun}
+use Rattle.block9.specs.NextPart.{takes_up_at}
 use Rattle.deck9.specs.declared.profile.Profile.{Profile}
 use Rattle.deck9.specs.declared.state.State.{State}
 use Rattle.deck9.specs.State.{IsFirst}
@@ -34,7 +35,7 @@ use Rattle.judge9.specs.declared.follower.Follower.{Follower}
 use Rattle.judge9.specs.declared.judging.Judging.{Judging}
 use Rattle.judge9.specs.declared.stage.Stage.{Stage}
 use Rattle.judge9.specs.declared.stage.Stage.TheVariants as stage
-use Rattle.judge9.specs.Beginning.{Rest, judged_from, rest_after, takes_up_at}
+use Rattle.judge9.specs.Beginning.{Rest, judged_from, rest_after}
 use Rattle.judge9.specs.Events.{AreRead, ComesToEnd, IsRefused, IsSilent, Reached, Tells}
 use Rattle.judge9.specs.History.{History, no_part, nothing_told, told_in}
 use Rattle.judge9.specs.Parts.{AreParts, BrokenPart, IsPart, Part, events_of, exchanges_of, late_replies, number_of}

@@ -1,7 +1,7 @@
 //! What is counted of the events of a judging.
 
 /// What was counted of the events so far.
-#[derive(Clone, Copy, Debug, PartialEq, Eq)]
+#[derive(Clone, Copy, PartialEq, Eq)]
 pub struct Counts {
     /// How many breaks and late replies there were.
     pub breaks: u64,

@@ -4,7 +4,7 @@ use block9::Reason;
 use capture9::LineByte;
 
 /// A record that breaks a rule.
-#[derive(Clone, Copy, Debug, PartialEq, Eq)]
+#[derive(Clone, Copy, PartialEq, Eq)]
 pub struct Break {
     /// The rule, and the first of them where it breaks several.
     pub reason: Reason,
@@ -15,7 +15,7 @@ pub struct Break {
 }
 
 /// What a judging comes to next.
-#[derive(Clone, Copy, Debug, PartialEq, Eq)]
+#[derive(Clone, Copy, PartialEq, Eq)]
 pub enum Event {
     /// A complete exchange, whose reply some run of the deck gives after those before it. The judging shows it up to the next
     /// event.

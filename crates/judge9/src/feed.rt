@@ -8,10 +8,10 @@ ghost use Rattle.judge9.specs.Verdict.{Terms, reply_limit_of, rows_allowed, term
 ghost use Rattle.judge9.specs.Working.Beginnings.{BeginsAfter, ComesFirst, TakesUp};
 ghost use Rattle.judge9.specs.Working.Turns.{ComesTo};
 
-use crate::beginning::{begins_next_part, pass_over};
+use crate::beginning::pass_over;
 use crate::event::{Break, Event};
 use crate::follower::Follower;
-use block9::ReplyLimit;
+use block9::{ReplyLimit, begins_next_part};
 use capture9::{GREATEST_LIMIT, LineByte, MOST_ROWS, Records};
 use deck9::Profile;
 use report9::{Beginning, Extent, JudgeError};

@@ -3,7 +3,7 @@
 use crate::event::Break;
 
 /// Where a judging stands between two events.
-#[derive(Clone, Copy, Debug, PartialEq, Eq)]
+#[derive(Clone, Copy, PartialEq, Eq)]
 pub enum Stage {
     /// Nothing was judged yet.
     Fresh,

@@ -1,7 +1,7 @@
 //! How the line that explains an exchange tells it.
 
 /// How the line that explains an exchange tells it.
-#[derive(Clone, Copy, Debug, PartialEq, Eq)]
+#[derive(Clone, Copy, PartialEq, Eq)]
 pub enum Detail {
     /// By the number of its last record, the command's name and what kind of reply came.
     Names,

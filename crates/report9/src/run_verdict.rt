@@ -4,7 +4,7 @@ use block9::{Exchange, Reason};
 use deck9::State;
 
 /// The verdict on the records of a capture, and where it is a yes a run of the deck that gives its replies.
-#[derive(Debug, Drop, PartialEq, Eq)]
+#[derive(Drop, PartialEq, Eq)]
 pub enum RunVerdict {
     /// No row is bad, all records that are judged keep the rules, and the deck of this run gives exactly their replies.
     Yes {

@@ -1,7 +1,7 @@
 //! The stretch of a capture that a view shows.
 
 /// From when to when, in microseconds on the capture's clock. All of the capture is judged: the stretch says what is shown of it.
-#[derive(Clone, Copy, Debug, PartialEq, Eq)]
+#[derive(Clone, Copy, PartialEq, Eq)]
 pub struct Stretch {
     /// What is shown comes at this time or later.
     pub from_us: u64,

@@ -6,7 +6,7 @@ use crate::pieces::{put_count, put_text};
 use std::alloc::AllocError;
 
 /// What was counted over all parts of a capture.
-#[derive(Clone, Copy, Debug, PartialEq, Eq)]
+#[derive(Clone, Copy, PartialEq, Eq)]
 pub struct Totals {
     /// How many records break a rule. A record may count twice: it begins a late reply and breaks another
     /// rule, or it ends a part and breaks the next one too.

@@ -4,7 +4,7 @@ use crate::detail::Detail;
 use block9::Reason;
 
 /// The verdict on the records of a capture.
-#[derive(Clone, Copy, Debug, PartialEq, Eq)]
+#[derive(Clone, Copy, PartialEq, Eq)]
 pub enum Verdict {
     /// No row is bad, all records that are judged keep the rules, and some run of the deck gives exactly their replies. A
     /// capture of which no record is judged is one of these.
@@ -27,7 +27,7 @@ pub enum Verdict {
 }
 
 /// How far a capture is judged.
-#[derive(Clone, Copy, Debug, PartialEq, Eq)]
+#[derive(Clone, Copy, PartialEq, Eq)]
 pub enum Extent {
     /// Up to the first record that breaks a rule. A late reply breaks one.
     FirstBreak,
@@ -37,7 +37,7 @@ pub enum Extent {
 }
 
 /// With which record of a capture its judging begins.
-#[derive(Clone, Copy, Debug, PartialEq, Eq)]
+#[derive(Clone, Copy, PartialEq, Eq)]
 pub enum Beginning {
     /// With the first.
     FirstRecord,
@@ -46,7 +46,7 @@ pub enum Beginning {
 }
 
 /// How much of a capture is judged.
-#[derive(Clone, Copy, Debug, PartialEq, Eq)]
+#[derive(Clone, Copy, PartialEq, Eq)]
 pub struct Scope {
     /// How far.
     pub extent: Extent,
@@ -55,7 +55,7 @@ pub struct Scope {
 }
 
 /// What is written of what was judged, besides the last line.
-#[derive(Clone, Copy, Debug, PartialEq, Eq)]
+#[derive(Clone, Copy, PartialEq, Eq)]
 pub enum View {
     /// The line of each break.
     Verdict,

@@ -5,7 +5,7 @@ use capture9::LineByte;
 use deck9::{Knowledge, ModeSet};
 
 /// An exchange, and the time at which it ended.
-#[derive(Debug, Drop, PartialEq, Eq)]
+#[derive(Drop, PartialEq, Eq)]
 pub struct EndedExchange {
     /// The exchange.
     pub exchange: Exchange,
@@ -15,7 +15,7 @@ pub struct EndedExchange {
 
 /// Why a record breaks a rule: where it is one of blocks, pairing or timing the records that are open, or the exchange before where
 /// none is, and where no run remains the replies that contradict one another.
-#[derive(Debug, Drop, PartialEq, Eq)]
+#[derive(Drop, PartialEq, Eq)]
 pub enum WhyNo {
     /// A record breaks a rule of blocks, pairing or timing. Later rows were not judged, and may be bad.
     Break {

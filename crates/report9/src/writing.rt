@@ -7,7 +7,7 @@ use arrayvec::CapacityError;
 use std::io::{self, Write};
 
 /// The writer failed, was interrupted, or took no byte.
-#[derive(Clone, Copy, Debug, PartialEq, Eq)]
+#[derive(Clone, Copy, PartialEq, Eq)]
 pub struct WriteFault;
 
 /// A line that its buffer has no room for can't be written.

@@ -7,9 +7,9 @@ ghost use Rattle.track9.specs.Tracker.{Possible};
 use crate::panel::{switch_on_for_hand, switch_panels};
 use crate::search::Search;
 use crate::stretches::{Stretch, drifted};
-use crate::touched_run::{Move, TouchedRun};
+use crate::touched_run::TouchedRun;
 use block9::Exchange;
-use deck9::State;
+use deck9::{HandMove, State};
 use sets25::SharedSet;
 use std::alloc::AllocError;
 use track9::{Kept, Start, Tracker};
@@ -41,8 +41,8 @@ impl Hand {
     }
 
     /// The move that found the deck in this state.
-    fn moved(&self, before: &State) -> Move {
-        Move {
+    fn moved(&self, before: &State) -> HandMove {
+        HandMove {
             place: self.place,
             before: with_panel_on(before),
             behind: with_panel_on(&self.behind),
@@ -129,7 +129,7 @@ impl Search<'_> {
 fn put_move(
     last: &Tracker<SharedSet>,
     hand: &Option<Hand>,
-    moves: &mut Vec<Move>,
+    moves: &mut Vec<HandMove>,
 ) -> Result<Option<State>, AllocError>
     ensures { IfOk result (λ o. IfSome o (Possible last.now.states)) }
 {

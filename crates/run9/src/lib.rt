@@ -16,4 +16,4 @@ mod way_back;
 
 pub use fewest_hands::{fewest_moves, states_of_run};
 pub use pace::MostSpans;
-pub use touched_run::{Move, TouchedRun};
+pub use touched_run::TouchedRun;

@@ -91,13 +91,21 @@ fn stretch_behind<'a, 'e>(
     exchanges: &'e [Exchange],
 ) -> Result<Stretch<'a, 'e>, AllocError> {
     let found = drifted(before.last()?)?;
-    let kept = kept_by_hand(&found, exchanges)?;
-    let first = found.touched(&kept);
+    let behind = stretch_from(&found, exchanges);
     drop(found);
+    behind
+}
+
+/// The stretch behind a hand that finds the deck in one of these states, and keeps what it can.
+fn stretch_from<'a, 'e>(
+    found: &Tracker<'a, SharedSet>,
+    exchanges: &'e [Exchange],
+) -> Result<Stretch<'a, 'e>, AllocError> {
+    let kept = kept_by_hand(found, exchanges)?;
     Ok(Stretch {
         exchanges,
         kept,
-        first: first?,
+        first: found.touched(&kept)?,
     })
 }
 

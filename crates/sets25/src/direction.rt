@@ -7,7 +7,7 @@ ghost use Rattle.sets25.specs.Working.Moves.{moved, edge_of, far_edge_of};
 use tc25::Rate;
 
 /// To the next frame or to the frame before, round the day.
-#[derive(Clone, Copy, Debug, PartialEq, Eq)]
+#[derive(Clone, Copy, PartialEq, Eq)]
 pub(crate) enum Direction {
     Next,
     Prev,

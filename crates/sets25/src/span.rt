@@ -8,7 +8,7 @@ use crate::direction::Direction;
 use tc25::Rate;
 
 /// The frames from `first` to `last`, both included.
-#[derive(Clone, Copy, Debug, PartialEq, Eq)]
+#[derive(Clone, Copy, PartialEq, Eq)]
 pub(crate) struct Span {
     pub(crate) first: u32,
     pub(crate) last: u32,

@@ -4,7 +4,7 @@ ghost use Rattle.std.specs.Prelude.{◌≡◌, ◌<◌, ◌≤◌, ◌∷◌, []
 ghost use Rattle.tc25.specs.Day.{before_frames, day, frame_named, in_second, label_of, labels_in_day, last_frame, longest_day};
 
 /// A frame rate: how frames are counted in time code.
-#[derive(Clone, Copy, Debug, PartialEq, Eq)]
+#[derive(Clone, Copy, PartialEq, Eq)]
 pub enum Rate {
     /// 24 frames a second: also 23.976, whose time code counts as if they were 24.
     Fps24,
@@ -20,6 +20,22 @@ pub enum Rate {
 impl Rate {
     ghost use Rattle.std.specs.Prelude.{◌≡◌, ◌<◌, ◌≤◌, ◌∷◌, []};
     ghost use Rattle.tc25.specs.Day.{before_frames, day, frame_named, in_second, label_of, labels_in_day, last_frame, longest_day};
+    ghost use Rattle.tc25.specs.Word.{word_of};
+
+    /// All rates, in the order in which they are told.
+    pub const ALL: [Rate; 4] = [Rate::Fps24, Rate::Fps25, Rate::Fps30, Rate::DropFrame];
+
+    /// The word of the rate on a command line.
+    pub fn word(self) -> &'static str
+        ensures { result.now ≡ word_of self }
+    {
+        match self {
+            Rate::Fps24 => "24",
+            Rate::Fps25 => "25",
+            Rate::Fps30 => "30",
+            Rate::DropFrame => "29.97df",
+        }
+    }
 
     /// The frames of a day of 24 hours.
     pub fn frames_in_day(self) -> u32
@@ -44,7 +60,7 @@ impl Rate {
     }
 
     /// How many labels a second has.
-    pub(crate) fn in_second(self) -> u32
+    pub fn in_second(self) -> u32
         ensures { result ≡ in_second self }
     {
         match self {

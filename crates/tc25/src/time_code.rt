@@ -11,7 +11,7 @@ use std::marker::Model;
 ///
 /// A contract sees a `TimeCode` as that number. It is below 2,592,000, the frames of the longest day, that of 30 frames a second;
 /// a time of 25 frames a second is below 2,160,000.
-#[derive(Clone, Copy, Debug, Default, PartialEq, Eq, PartialOrd, Ord, Hash)]
+#[derive(Clone, Copy, Default, PartialEq, Eq, PartialOrd, Ord, Hash)]
 pub struct TimeCode {
     frame: u32,
 }

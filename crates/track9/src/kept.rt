@@ -1,7 +1,7 @@
 //! What a hand leaves as it is.
 
 /// Which fields of a deck's state a move of a hand keeps: none by default.
-#[derive(Clone, Copy, Debug, Default, PartialEq, Eq)]
+#[derive(Clone, Copy, Default, PartialEq, Eq)]
 pub struct Kept {
     /// The commanded mode.
     pub goal: bool,

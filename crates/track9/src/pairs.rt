@@ -14,11 +14,11 @@ use crate::start::known_modes;
 use deck9::{DeckRef, Mode, ModeSet};
 
 /// The modes that may be shown with each goal, in the order of the modes.
-#[derive(Clone, Copy, Debug, PartialEq, Eq)]
+#[derive(Clone, Copy, PartialEq, Eq)]
 pub(crate) struct Pairs([ModeSet; 10]);
 
 /// A goal and a shown mode.
-#[derive(Clone, Copy, Debug, PartialEq, Eq)]
+#[derive(Clone, Copy, PartialEq, Eq)]
 pub(crate) struct Pair {
     pub(crate) goal: Mode,
     pub(crate) shown: Mode,

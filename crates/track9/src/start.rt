@@ -7,7 +7,7 @@ use deck9::{Entry, Mode, ModeSet};
 
 /// What is known of the state that a deck starts from: a field that is `None` may be anything. By default
 /// nothing is known.
-#[derive(Clone, Copy, Debug, Default, PartialEq, Eq)]
+#[derive(Clone, Copy, Default, PartialEq, Eq)]
 pub struct Start {
     /// The commanded mode.
     pub goal: Option<Mode>,

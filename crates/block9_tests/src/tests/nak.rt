@@ -23,6 +23,6 @@ fn each_reason_has_its_bit_and_name(rt: HostRuntime) {
         (0x0A, NakBits::OVERRUN, false),
     ] {
         let bits = NakBits::from_bits_retain(bits);
-        same(&rt, bits.contains(flag), is_set, flag);
+        same(&rt, bits.contains(flag), is_set, flag.bits());
     }
 }

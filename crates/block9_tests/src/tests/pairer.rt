@@ -33,7 +33,10 @@ fn take(rt: &impl Abort, pairer: &mut Pairer, line_byte: LineByte) -> (Step, usi
     }
     match pairer.feed(line_byte) {
         Ok(step) => (step, pairer.tail_len()),
-        Err(refusal) => panic!(rt; "{refusal:?} at {line_byte:?}"),
+        Err(refusal) => {
+            let (reason, at) = (refusal.reason.name(), line_byte.time_us);
+            panic!(rt; "{reason} at {at}")
+        }
     }
 }
 
@@ -76,15 +79,25 @@ fn a_command_and_its_reply_are_an_exchange(rt: HostRuntime) {
         (record(2_400, Deck, 0x11), (Step::Exchange, 0), false),
         (record(2_800, Controller, 0x20), (Step::Waiting, 1), false),
     ] {
-        same(&rt, take(&rt, &mut pairer, *line_byte), *taken, *line_byte);
+        same(
+            &rt,
+            take(&rt, &mut pairer, *line_byte),
+            *taken,
+            line_byte.time_us,
+        );
         let open = is_open.then_some(Command::Play);
-        same(&rt, pairer.open_command(), open, *line_byte);
-        same(&rt, pairer.last_time(), Some(line_byte.time_us), *line_byte);
+        same(&rt, pairer.open_command(), open, line_byte.time_us);
+        same(
+            &rt,
+            pairer.last_time(),
+            Some(line_byte.time_us),
+            line_byte.time_us,
+        );
         let whole = match taken {
             (Step::Exchange, _) => Some(&exchange),
             _ => None,
         };
-        same(&rt, pairer.exchange(), whole, *line_byte);
+        same(&rt, pairer.exchange(), whole, line_byte.time_us);
     }
     same(&rt, &exchange.copy(), &exchange, "a copy");
 }
@@ -108,7 +121,7 @@ fn a_record_that_breaks_a_rule_leaves_no_exchange(rt: HostRuntime) {
         &rt,
         feed(&rt, &mut pairer, stray),
         refused(Reason::ReplyWithoutCommand),
-        stray,
+        stray.time_us,
     );
     assert!(rt; pairer.exchange().is_none());
 }
@@ -121,13 +134,13 @@ fn a_reason_stays(rt: HostRuntime) {
         &rt,
         take(&rt, &mut pairer, first),
         (Step::Waiting, 1),
-        first,
+        first.time_us,
     );
     same(
         &rt,
         take(&rt, &mut pairer, second),
         (Step::Waiting, 2),
-        second,
+        second.time_us,
     );
     for line_byte in [
         record(1_200, Controller, 0x22),
@@ -135,9 +148,14 @@ fn a_reason_stays(rt: HostRuntime) {
         record(9_999_999, Controller, 0x20),
     ] {
         let fault = feed(&rt, &mut pairer, line_byte);
-        same(&rt, fault, refused(Reason::WrongSum), line_byte);
-        same(&rt, pairer.last_time(), Some(1_200), line_byte);
-        same(&rt, pairer.tail(), [first, second].as_slice(), line_byte);
+        same(&rt, fault, refused(Reason::WrongSum), line_byte.time_us);
+        same(&rt, pairer.last_time(), Some(1_200), line_byte.time_us);
+        same(
+            &rt,
+            pairer.tail(),
+            [first, second].as_slice(),
+            line_byte.time_us,
+        );
     }
 }
 
@@ -189,24 +207,19 @@ fn a_late_reply_breaks_a_rule_where_the_limit_counts(rt: HostRuntime) {
     ] {
         let mut pairer = after_play(&rt, reply_limit, 1_000);
         let first = record(at, Deck, byte);
-        same(
-            &rt,
-            feed(&rt, &mut pairer, first),
-            answer,
-            (reply_limit, at),
-        );
+        same(&rt, feed(&rt, &mut pairer, first), answer, at);
     }
     // the reason stays, and the next record begins no late reply
     let mut pairer = after_play(&rt, ReplyLimit::Counts, 1_000);
     let first = record(10_288, Deck, 0x10);
     assert!(rt; feed(&rt, &mut pairer, first).is_err());
     let answer = feed(&rt, &mut pairer, first);
-    same(&rt, answer, refused(Reason::LateReply), first);
+    same(&rt, answer, refused(Reason::LateReply), first.time_us);
     // a command that comes so late is no late reply
     let mut pairer = after_play(&rt, ReplyLimit::LeftAside, 1_000);
     let next = record(10_288, Controller, 0x20);
     let answer = feed(&rt, &mut pairer, next);
-    same(&rt, answer, refused(Reason::NoReply), next);
+    same(&rt, answer, refused(Reason::NoReply), next.time_us);
 }
 
 #[test]
@@ -218,7 +231,12 @@ fn an_exchange_with_a_late_reply_has_its_true_delay(rt: HostRuntime) {
         (13_800, 0x11, (Step::Exchange, 0)),
     ] {
         let line_byte = record(at, Deck, byte);
-        same(&rt, take(&rt, &mut pairer, line_byte), taken, line_byte);
+        same(
+            &rt,
+            take(&rt, &mut pairer, line_byte),
+            taken,
+            line_byte.time_us,
+        );
     }
     let delay_us = pairer.exchange().map(|exchange| exchange.delay_us);
     same(&rt, delay_us, Some(12_000), "12,000 after the command");
@@ -229,7 +247,12 @@ fn an_exchange_with_a_late_reply_has_its_true_delay(rt: HostRuntime) {
         (23_288, 0x01, refused(Reason::ByteGap)),
     ] {
         let line_byte = record(at, Deck, byte);
-        same(&rt, feed(&rt, &mut pairer, line_byte), answer, line_byte);
+        same(
+            &rt,
+            feed(&rt, &mut pairer, line_byte),
+            answer,
+            line_byte.time_us,
+        );
     }
 }
 
@@ -293,13 +316,13 @@ fn a_preset_is_read_at_the_rate(rt: HostRuntime) {
             let answer = feed(&rt, &mut pairer, record(time_us, wire, byte));
             let fault = (!is_taken).then_some(Reason::InvalidCommandTime);
             let reason = answer.err().map(|refusal| refusal.reason);
-            same(&rt, reason, fault, (rate, time_us));
+            same(&rt, reason, fault, (rate.word(), time_us));
         }
-        same(&rt, frame_in(pairer.open_command()), frame, rate);
+        same(&rt, frame_in(pairer.open_command()), frame, rate.word());
         let last = feed(&rt, &mut pairer, record(4_000, Deck, 0x11));
-        same(&rt, last.is_ok(), is_time, rate);
+        same(&rt, last.is_ok(), is_time, rate.word());
         let command = pairer.exchange().map(|exchange| exchange.command);
-        same(&rt, frame_in(command), frame, rate);
+        same(&rt, frame_in(command), frame, rate.word());
     }
 }
 

@@ -15,7 +15,7 @@ use std::process::Abort;
 /// Holds that a text is read whole, as these records.
 fn read_whole<R: Read + Drop>(rt: &impl Abort, alloc: Global, reader: R, records: &[LineByte]) {
     let capture = read_capture(alloc, reader);
-    same(rt, capture.fault, None, records);
+    same(rt, capture.fault, None, records.len());
     same(rt, capture.rows.as_slice(), records, "the records");
 }
 
@@ -119,7 +119,7 @@ fn a_reader_of_single_bytes(rt: HostRuntime) {
 fn the_end_is_told_again(rt: HostRuntime) {
     let mut records = Records::new(rt.alloc(), SIX, MOST_ROWS);
     for record in SIX_RECORDS {
-        same(&rt, records.next(), Ok(Some(record)), record);
+        same(&rt, records.next(), Ok(Some(record)), record.time_us);
     }
     same(&rt, records.next(), Ok(None), "the end");
     same(&rt, records.next(), Ok(None), "the end, told again");
@@ -133,7 +133,7 @@ fn a_refusal_is_told_again(rt: HostRuntime) {
     };
     let mut records = Records::new(rt.alloc(), Repeated::new(SIX, b"2800,C,G1\n", 3), MOST_ROWS);
     for record in SIX_RECORDS {
-        same(&rt, records.next(), Ok(Some(record)), record);
+        same(&rt, records.next(), Ok(Some(record)), record.time_us);
     }
     same(&rt, records.next(), Err(refusal), "the refusal");
     same(&rt, records.next(), Err(refusal), "the refusal, told again");
@@ -144,7 +144,7 @@ fn a_read_fault_is_told_again(rt: HostRuntime) {
     let refusal = error(CaptureKind::Read, 2);
     let mut records = Records::new(rt.alloc(), Cut::new(SIX, 30), MOST_ROWS);
     let record = from_controller(400, 0x20);
-    same(&rt, records.next(), Ok(Some(record)), record);
+    same(&rt, records.next(), Ok(Some(record)), record.time_us);
     same(&rt, records.next(), Err(refusal), "the refusal");
     same(&rt, records.next(), Err(refusal), "the refusal, told again");
 }

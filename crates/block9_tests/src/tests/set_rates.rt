@@ -23,16 +23,26 @@ fn time(frame: u32) -> TimeCode {
 /// Holds which of frame 0 and of the last two of the day are members, and the rate.
 fn holds<S: TimeSet>(rt: &impl Abort, set: &S, rate: Rate, last: u32, members: [bool; 3]) {
     let [has_first, has_before_last, has_last] = members;
-    same(rt, set.contains(time(0)), has_first, (rate, "frame 0"));
+    same(
+        rt,
+        set.contains(time(0)),
+        has_first,
+        (rate.word(), "frame 0"),
+    );
     let before_last = time(last.saturating_sub(1));
     same(
         rt,
         set.contains(before_last),
         has_before_last,
-        (rate, "the last but one"),
+        (rate.word(), "the last but one"),
     );
-    same(rt, set.contains(time(last)), has_last, (rate, "the last"));
-    same(rt, set.rate(), rate, (rate, "its rate"));
+    same(
+        rt,
+        set.contains(time(last)),
+        has_last,
+        (rate.word(), "the last"),
+    );
+    same(rt, set.rate(), rate, (rate.word(), "its rate"));
 }
 
 /// The last two frames of the day, moved over midnight and back, and widened over it.
@@ -43,12 +53,12 @@ fn goes_over_midnight<S: TimeSet>(
     last: u32,
 ) -> Result<(), AllocError> {
     let mut set = S::one_at(alloc, rate, time(last))?;
-    same(rt, set.only(), Some(time(last)), (rate, "the last"));
+    same(rt, set.only(), Some(time(last)), (rate.word(), "the last"));
     set.add(time(last.saturating_sub(1)))?;
     holds(rt, &set, rate, last, [false, true, true]);
     set.shift_next()?;
     holds(rt, &set, rate, last, [true, false, true]);
-    same(rt, set.least(), Some(time(0)), (rate, "shifted"));
+    same(rt, set.least(), Some(time(0)), (rate.word(), "shifted"));
     set.shift_prev()?;
     holds(rt, &set, rate, last, [false, true, true]);
     set.widen_next()?;
@@ -73,17 +83,32 @@ fn has_times_of_its_day_alone<S: TimeSet>(
     let Some(outside) = TimeCode::from_frames_at(Rate::Fps30, last.saturating_add(1)) else {
         return Ok(());
     };
-    same(rt, all.contains(outside), false, (rate, "of the whole day"));
+    same(
+        rt,
+        all.contains(outside),
+        false,
+        (rate.word(), "of the whole day"),
+    );
     let mut set = S::none_at(alloc, rate);
     set.add(outside)?;
-    same(rt, set.is_empty(), true, (rate, "after an addition"));
+    same(rt, set.is_empty(), true, (rate.word(), "after an addition"));
     set.add(time(last))?;
     set.add(outside)?;
-    same(rt, set.only(), Some(time(last)), (rate, "of one time"));
+    same(
+        rt,
+        set.only(),
+        Some(time(last)),
+        (rate.word(), "of one time"),
+    );
     let one = S::one_at(alloc, rate, outside)?;
-    same(rt, one.is_empty(), true, (rate, "of that time alone"));
+    same(
+        rt,
+        one.is_empty(),
+        true,
+        (rate.word(), "of that time alone"),
+    );
     set.keep_only(outside)?;
-    same(rt, set.is_empty(), true, (rate, "kept of one time"));
+    same(rt, set.is_empty(), true, (rate.word(), "kept of one time"));
     holds(rt, &set, rate, last, [false, false, false]);
     Ok(())
 }
@@ -153,13 +178,23 @@ fn spans(rt: HostRuntime) -> Result<(), Fail> {
     for (rate, last) in LAST_FRAMES {
         let mut set = SpanSet::one_at(rt.alloc(), rate, time(last))?;
         set.widen_next()?;
-        same(&rt, set.spans(), 2, (rate, "two spans meet at midnight"));
+        same(
+            &rt,
+            set.spans(),
+            2,
+            (rate.word(), "two spans meet at midnight"),
+        );
         set.shift_next()?;
-        same(&rt, set.spans(), 1, (rate, "one span after midnight"));
+        same(
+            &rt,
+            set.spans(),
+            1,
+            (rate.word(), "one span after midnight"),
+        );
         set.shift_prev()?;
-        same(&rt, set.spans(), 2, (rate, "two spans again"));
+        same(&rt, set.spans(), 2, (rate.word(), "two spans again"));
         let day = SpanSet::all_at(rt.alloc(), rate)?;
-        same(&rt, day.spans(), 1, (rate, "the whole day"));
+        same(&rt, day.spans(), 1, (rate.word(), "the whole day"));
     }
     Ok(())
 }

@@ -106,11 +106,21 @@ fn is_spelled(rate: Rate, frame: u32, text: &str) -> bool {
 fn reads_and_writes_at_each_rate(rt: HostRuntime) {
     for (rate, bytes, frame, text) in ROWS {
         let read = TimeCode::from_bytes_at(rate, bytes);
-        same(&rt, read.map(|t| t.frames()), Some(frame), (rate, bytes));
+        same(
+            &rt,
+            read.map(|t| t.frames()),
+            Some(frame),
+            (rate.word(), bytes),
+        );
         let made = TimeCode::from_frames_at(rate, frame);
         let written = made.map(|t| t.to_bytes_at(rate));
-        same(&rt, written, Some(bytes), (rate, frame));
-        same(&rt, is_spelled(rate, frame, text), true, (rate, frame));
+        same(&rt, written, Some(bytes), (rate.word(), frame));
+        same(
+            &rt,
+            is_spelled(rate, frame, text),
+            true,
+            (rate.word(), frame),
+        );
     }
 }
 
@@ -129,7 +139,7 @@ fn tells_what_is_no_time_of_the_day(rt: HostRuntime) {
             &rt,
             TimeCode::from_bytes_at(rate, bytes),
             None,
-            (rate, bytes),
+            (rate.word(), bytes),
         );
     }
 }
@@ -143,7 +153,7 @@ fn ignores_the_drop_frame_flag(rt: HostRuntime) {
         (Rate::DropFrame, Some(2_589_407)),
     ] {
         let read = TimeCode::from_bytes_at(rate, [0x69, 0x59, 0x59, 0x23]);
-        same(&rt, read.map(|t| t.frames()), frame, rate);
+        same(&rt, read.map(|t| t.frames()), frame, rate.word());
     }
 }
 
@@ -155,13 +165,13 @@ fn goes_round_each_day(rt: HostRuntime) {
         (Rate::Fps30, 2_592_000),
         (Rate::DropFrame, 2_589_408),
     ] {
-        same(&rt, rate.frames_in_day(), day, rate);
-        same(&rt, TimeCode::from_frames_at(rate, day), None, rate);
+        same(&rt, rate.frames_in_day(), day, rate.word());
+        same(&rt, TimeCode::from_frames_at(rate, day), None, rate.word());
         let first = TimeCode::default();
         let last = first.prev_at(rate);
-        same(&rt, last.frames().saturating_add(1), day, rate);
-        same(&rt, rate.last_frame(), last.frames(), rate);
-        same(&rt, last.next_at(rate), first, rate);
+        same(&rt, last.frames().saturating_add(1), day, rate.word());
+        same(&rt, rate.last_frame(), last.frames(), rate.word());
+        same(&rt, last.next_at(rate), first, rate.word());
     }
 }
 

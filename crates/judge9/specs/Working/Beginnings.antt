@@ -4,7 +4,7 @@ use Rattle.std.specs.Prelude.{◌≡◌, ◌∷◌, ◌⊎◌}
 use Rattle.std.specs.Bool.{MatchBool}
 use Rattle.judge9.specs.Working.{[], Beginning, Break, CaptureError, Err, false, Follower, GivesEnd, GivesRecord, GivesRefusal, JudgeError, Feed, LineByte, List, None, Ok, Option, Progress}
 use Rattle.judge9.specs.Working.{refusal_of, Result, Some, true, Turn, ⊤}
-use Rattle.judge9.specs.Beginning.{begins_next_part, may_begin}
+use Rattle.block9.specs.NextPart.{begins_next_part, may_begin}
 use Rattle.judge9.specs.Verdict.{Terms}
 use Rattle.judge9.specs.Standing.{KnowsNothing}
 use Rattle.judge9.specs.Working.Turns.{Comes, ComesTo}

@@ -178,7 +178,7 @@ fn tell_counts(
     let profile = Profile::of(Hands::None);
     let run = judge_with_run_for(alloc, text.as_bytes(), beginning, &profile);
     let run = run.expect(rt, "a verdict");
-    same(rt, counts_of(&run), counts, beginning);
+    same(rt, counts_of(&run), counts, text);
 }
 
 #[test]

@@ -125,7 +125,7 @@ fn refuse_each(
         if let (Some(changed), Some(state)) = (change, states.get_mut(at)) {
             *state = *changed;
             let is_run = is_run(exchanges, states, hands);
-            same(rt, is_run, false, (at, changed, exchanges));
+            same(rt, is_run, false, at);
         }
     }
 }

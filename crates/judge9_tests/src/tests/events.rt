@@ -187,7 +187,7 @@ fn behind_the_end(rt: HostRuntime) -> Result<(), AllocError> {
         let events = three_events(&mut judging);
         drop(judging);
         let are_so = matches!(events, Ok((Event::Break(_), Event::End, Event::End)));
-        same(&rt, are_so, true, extent);
+        same(&rt, are_so, true, extent == Extent::FirstBreak);
     }
     Ok(())
 }

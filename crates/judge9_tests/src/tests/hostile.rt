@@ -107,9 +107,9 @@ fn tell_room(
 ) {
     let mut writer = Narrow::new(alloc, room, then);
     let answer = judge(alloc, text.as_bytes(), &mut writer, view, Hands::None);
-    same(rt, answer, expected, (view, room, then));
+    same(rt, answer, expected, (lines, room));
     let (taken, wanted) = (writer.into_taken(), lines.as_bytes().get(..room));
-    same(rt, Some(taken.as_slice()), wanted, (view, room, then));
+    same(rt, Some(taken.as_slice()), wanted, (lines, room));
 }
 
 #[test]

@@ -5,8 +5,7 @@ use super::fewest_hands::{Run, run_if_yes, touched_run};
 use super::parts::*;
 use super::{capture, fail, same};
 use block9::Exchange;
-use deck9::{Hands, Profile, State};
-use run9::Move;
+use deck9::{HandMove, Hands, Profile, State};
 use sets25::SpanSet;
 use std::alloc::{AllocError, Global};
 use std::process::Abort;
@@ -47,7 +46,7 @@ fn kept(fields: [bool; 7]) -> Kept {
 }
 
 /// The letters of the fields that a move changes.
-fn changed(alloc: Global, moved: &Move) -> Result<String, AllocError> {
+fn changed(alloc: Global, moved: &HandMove) -> Result<String, AllocError> {
     let mut letters = String::new(alloc);
     for (letter, agrees) in LETTERS.iter().zip(agreed(&moved.before, &moved.behind)) {
         if !agrees {
@@ -98,24 +97,29 @@ fn leads(alloc: Global, from: &State, exchange: &Exchange, to: &State) -> Result
 
 /// A drift leads from the state before a move to the one that the hand found, and the next exchange from the one that it left to
 /// the state behind.
-fn fits(rt: &impl Abort, alloc: Global, run: &Run, moved: &Move) -> Result<(), Fail> {
+fn fits(rt: &impl Abort, alloc: Global, run: &Run, moved: &HandMove) -> Result<(), Fail> {
     let last = moved.place.saturating_sub(1);
     let (Some(exchange), Some([before, behind])) = (
         run.exchanges.get(moved.place),
         run.states.get(last..=moved.place),
     ) else {
-        fail(rt, moved)
+        fail(rt, moved.place)
     };
     let drifts = drifts(alloc, &untouched(before), &untouched(&moved.before))?;
-    same(rt, drifts, true, moved);
+    same(rt, drifts, true, moved.place);
     let leads = leads(
         alloc,
         &untouched(&moved.behind),
         exchange,
         &untouched(behind),
     )?;
-    same(rt, leads, true, moved);
-    same(rt, moved.before.panel && moved.behind.panel, true, moved);
+    same(rt, leads, true, moved.place);
+    same(
+        rt,
+        moved.before.panel && moved.behind.panel,
+        true,
+        moved.place,
+    );
     Ok(())
 }
 
@@ -155,12 +159,12 @@ fn goes_on<'a>(
     mut found: Tracker<'a, SpanSet>,
     before: &[Exchange],
     behind: &[Exchange],
-    moved: &Move,
+    moved: &HandMove,
 ) -> Result<Tracker<'a, SpanSet>, AllocError> {
     remains(&mut found, before)?;
     found.drift()?;
     let fields = agreed(&moved.before, &moved.behind);
-    same(rt, fields, most_kept(&found, behind)?, moved);
+    same(rt, fields, most_kept(&found, behind)?, moved.place);
     found.touched(&kept(fields))
 }
 
@@ -169,7 +173,7 @@ fn keeps_most(
     rt: &impl Abort,
     alloc: Global,
     exchanges: &[Exchange],
-    moves: &[Move],
+    moves: &[HandMove],
 ) -> Result<(), AllocError> {
     let profile = Profile::of(Hands::None);
     let mut tracker = Tracker::starting(alloc, &profile, &Start::default())?;

@@ -51,7 +51,7 @@ fn tell_turns(
 ) -> Result<(), AllocError> {
     let text = turns(alloc, exchanges)?;
     let is_yes = tell(rt, alloc, text.as_str(), hands)?;
-    same(rt, is_yes, true, (exchanges, hands));
+    same(rt, is_yes, true, exchanges);
     Ok(())
 }
 

@@ -46,7 +46,7 @@ fn fault(row: u32) -> JudgeError {
 fn tell_fault(rt: &impl Abort, alloc: Global, hands: Hands, given: usize, row: u32) {
     for view in VIEWS {
         let (answer, _) = report(alloc, Cut::new(PLAYED_AND_CUT, given), view, hands);
-        same(rt, answer, Err(fault(row)), (view, given));
+        same(rt, answer, Err(fault(row)), given);
     }
     let run = judge_with_run(alloc, Cut::new(PLAYED_AND_CUT, given), hands);
     same(rt, run, Err(fault(row)), ("a run", given));
@@ -81,7 +81,7 @@ fn behind_the_break(rt: HostRuntime) -> Result<(), Fail> {
     for view in VIEWS {
         let reader = Cut::new(text.as_str(), text.len());
         let (answer, _) = report(rt.alloc(), reader, view, Hands::None);
-        same(&rt, answer, Ok(no), view);
+        same(&rt, answer, Ok(no), matches!(view, View::Why));
     }
     Ok(())
 }

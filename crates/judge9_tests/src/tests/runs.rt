@@ -219,7 +219,7 @@ fn tell_row(
 ) {
     same(rt, exchanges.len(), sent.len(), sent);
     let is_run = is_run(exchanges, states, hands);
-    same(rt, is_run, *expected, (sent, states));
+    same(rt, is_run, *expected, sent);
 }
 
 /// Compares what is answered for each row.

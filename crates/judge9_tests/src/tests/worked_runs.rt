@@ -154,7 +154,7 @@ fn agree(rt: &impl Abort, alloc: Global, hands: Hands, rows: &[Parts]) -> Result
     for parts in rows {
         let text = capture(alloc, parts)?;
         let is_yes = tell(rt, alloc, text.as_str(), hands)?;
-        same(rt, is_yes, true, (parts, hands));
+        same(rt, is_yes, true, parts);
     }
     Ok(())
 }

@@ -124,11 +124,21 @@ fn agree(
     deck.observe(command, reply)?;
     let listed = deck.knowledge();
     let answers = (tracker.remains(), listed.is_some());
-    same(rt, answers, (remains, remains), (command, reply));
-    same(rt, tracker.shown(), deck.shown(), (command, reply));
+    same(
+        rt,
+        answers,
+        (remains, remains),
+        (command.name(), reply.head()),
+    );
+    same(
+        rt,
+        tracker.shown(),
+        deck.shown(),
+        (command.name(), reply.head()),
+    );
     if let Some(listed) = listed {
         let tracked = known_of(rt, tracker, registers);
-        same(rt, tracked, listed, (command, reply));
+        same(rt, tracked, listed, (command.name(), reply.head()));
     }
     Ok(remains)
 }

@@ -160,7 +160,7 @@ fn tell_row<S: TimeSet>(rt: &impl Abort, tracker: &Tracker<S>, row: &Row) {
     let only = state(rt, Mode::Play, Mode::Play, 900_000);
     let target = state(rt, row.goal, row.shown, row.in_frames);
     let before = state_before(rt, tracker, row.sent, &target);
-    same(rt, before, row.is_reached.then_some(only), target);
+    same(rt, before, row.is_reached.then_some(only), row.in_frames);
 }
 
 fn tell_rows<S: TimeSet>(rt: &impl Abort, tracker: &mut Tracker<S>) -> Result<(), AllocError> {

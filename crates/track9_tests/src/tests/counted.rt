@@ -66,7 +66,7 @@ fn count(
     take_all(rt, tracker, exchanges)?;
     for (register, wanted) in counts {
         let found = spans_and_presets(tracker, *register);
-        same(rt, found, *wanted, (*register, exchanges));
+        same(rt, found, *wanted, (*register as u8, exchanges));
     }
     Ok(())
 }

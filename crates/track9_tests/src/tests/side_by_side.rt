@@ -131,7 +131,12 @@ impl Tally {
         for register in REGISTERS {
             let spans = tracker.spans(register);
             let most = u64::from(tracker.presets(register)) + 2;
-            same(rt, spans as u64 <= most, true, (register, spans, most));
+            same(
+                rt,
+                spans as u64 <= most,
+                true,
+                (register as u8, spans, most),
+            );
             self.spans = self.spans.max(spans);
         }
     }
@@ -148,9 +153,19 @@ pub(super) fn agree(
     let remains = observe(rt, spans, command, reply)?;
     let listed = observe(rt, lists, command, reply)?;
     let answers = (listed, spans.remains(), lists.remains());
-    same(rt, answers, (remains, remains, remains), (command, reply));
+    same(
+        rt,
+        answers,
+        (remains, remains, remains),
+        (command.name(), reply.head()),
+    );
     if remains {
-        same(rt, known(rt, spans), known(rt, lists), (command, reply));
+        same(
+            rt,
+            known(rt, spans),
+            known(rt, lists),
+            (command.name(), reply.head()),
+        );
     }
     Ok(remains)
 }

@@ -82,7 +82,7 @@ fn agree<S: TimeSet>(
     let tracker: Tracker<S> = Tracker::starting(alloc, &profile, start)?;
     let known = known(rt, &tracker);
     drop(tracker);
-    same(rt, known, expected(start), start);
+    same(rt, known, expected(start), rate.word());
     Ok(())
 }
 
