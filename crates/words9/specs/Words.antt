@@ -2,7 +2,7 @@
 use Rattle.std.specs.Prelude.{◌≡◌, List, [], ◌++◌, ◌∷◌, Option, Some, None, codes, find, map, option_map, Bool, true, false, ◌&&◌, ◌||◌, if◌then◌else◌}
 use Rattle.std.specs.List.{fold}
 use Rattle.std.specs.Borrow.{Bor}
-use Rattle.std.specs.Option.{option_map_or}
+use Rattle.std.specs.Option.{unwrap_or}
 use Rattle.std.specs.Str.{bytes_eq}
 use Rattle.std.specs.String.{string_bytes}
 use Rattle.clap.specs.Words.{App, IsAmong, Row, Rule, Text, fault_of, first_of, new_app, new_rule, subcommand_of, with_rule, with_subcommand}
@@ -10,7 +10,9 @@ use Rattle.clap.specs.declared.builder.action.ArgAction.TheVariants.{SetTrue}
 use Rattle.clap.specs.declared.builder.value_parser.ValueParser.TheVariants as parser
 use Rattle.clap.specs.declared.error.kind.ErrorKind.TheVariants.{DisplayVersion}
 use Rattle.tc25.specs.declared.rate.Rate.{Rate}
+use Rattle.tc25.specs.declared.rate.TheConstants.Rate.{ALL as RATES}
 use Rattle.tc25.specs.declared.rate.Rate.TheVariants as rate
+use Rattle.tc25.specs.Word.{word_of}
 use Rattle.deck9.specs.declared.state.Hands.{Hands}
 use Rattle.deck9.specs.declared.state.Hands.TheVariants as hands
 use Rattle.report9.specs.declared.detail.Detail.{Detail}
@@ -28,20 +30,16 @@ use Rattle.words9.specs.declared.task.Export.TheVariants as export
 use Rattle.words9.specs.declared.task.ExportWords.{ExportWords}
 use Rattle.words9.specs.declared.task.Report.{Report}
 use Rattle.words9.specs.declared.task.Made.TheVariants as made
-use Rattle.words9.specs.declared.task.Report.TheVariants.{Clock, Convert, Info, JsonRun, Made, Page, Parts, Picture, Run, Split, ToBreak, Touches, Try}
+use Rattle.words9.specs.declared.task.Report.TheVariants.{Made, Parts, Run, ToBreak}
 use Rattle.words9.specs.declared.task.Task.{Task}
 use Rattle.report9.specs.declared.time_form.TimeForm.{TimeForm}
 use Rattle.report9.specs.declared.time_form.TimeForm.TheVariants as form
 use Rattle.words9.specs.declared.task.Verb.{Verb}
 use Rattle.words9.specs.declared.task.Verb.TheVariants as verb
 
--- the rates, by their names
-abbrev pub rates : List (Text × Rate)
-rates = (codes "24", rate.Fps24) ∷ (codes "25", rate.Fps25) ∷ (codes "30", rate.Fps30) ∷ (codes "29.97df", rate.DropFrame) ∷ []
-
 -- the rate with this name. There is never one that no rate has: the program does not take such words
 abbrev pub rate_named : Text → Rate
-rate_named name = option_map_or (λ r. r.1) (find (λ r. bytes_eq name r.0) rates) rate.Fps25
+rate_named name = unwrap_or (find (λ r. bytes_eq name (word_of r)) RATES) rate.Fps25
 
 -- the rate that the option names, and 25 where it is not among the words
 abbrev pub rate_of : Option Text → Rate
@@ -54,103 +52,23 @@ abbrev pub RateNames : Type 0
 RateNames = Bor (List (Bor Text))
 
 abbrev pub AreRateNames : RateNames → Type 0
-AreRateNames names = map (λ name. name.now) names.now ≡ map (λ r. r.0) rates
+AreRateNames names = map (λ name. name.now) names.now ≡ map word_of RATES
 
 -- a file, which may be left out
-abbrev pub file_rule : Rule
-file_rule = new_rule (codes "FILE")
+abbrev pub file_rule : Text → Rule
+file_rule id = new_rule id
 
--- an option that is there or not
-abbrev pub hands_rule : Rule
-hands_rule = record (new_rule (codes "hands")) { long = Some (codes "hands"); action = Some SetTrue }
+-- an option that is there or not: its long name, which is its id too
+abbrev pub switch_rule : Text → Rule
+switch_rule name = record (new_rule name) { long = Some name; action = Some SetTrue }
 
--- the same
-abbrev pub sync_rule : Rule
-sync_rule = record (new_rule (codes "sync")) { long = Some (codes "sync"); action = Some SetTrue }
+-- an option with a value, whatever it is: its id and its long name
+abbrev pub value_rule : Text → Text → Rule
+value_rule id name = record (new_rule id) { long = Some name; value_names = 1 }
 
--- an option with one of the names
+-- an option with one of the names of the rates
 abbrev pub rate_rule : RateNames → Rule
-rate_rule names = record (new_rule (codes "rate")) { long = Some (codes "rate"); value_names = 1; parser = Some (parser.Names names) }
-
--- an option with a file
-abbrev pub deck_rule : Rule
-deck_rule = record (new_rule (codes "deck")) { long = Some (codes "deck"); value_names = 1 }
-
--- an option that is there or not
-abbrev pub all_rule : Rule
-all_rule = record (new_rule (codes "all")) { long = Some (codes "all"); action = Some SetTrue }
-
--- the same
-abbrev pub line_buffered_rule : Rule
-line_buffered_rule = record (new_rule (codes "line-buffered")) { long = Some (codes "line-buffered"); action = Some SetTrue }
-
--- the same
-abbrev pub bytes_rule : Rule
-bytes_rule = record (new_rule (codes "bytes")) { long = Some (codes "bytes"); action = Some SetTrue }
-
--- an option with a time
-abbrev pub from_rule : Rule
-from_rule = record (new_rule (codes "from")) { long = Some (codes "from"); value_names = 1 }
-
--- the same
-abbrev pub to_rule : Rule
-to_rule = record (new_rule (codes "to")) { long = Some (codes "to"); value_names = 1 }
-
--- an option with the number of a record
-abbrev pub at_rule : Rule
-at_rule = record (new_rule (codes "at")) { long = Some (codes "at"); value_names = 1 }
-
--- an option with a number of pixels
-abbrev pub width_rule : Rule
-width_rule = record (new_rule (codes "width")) { long = Some (codes "width"); value_names = 1 }
-
--- an option that is there or not, which `why` alone has
-abbrev pub quiet_rule : Rule
-quiet_rule = record (new_rule (codes "quiet")) { long = Some (codes "quiet"); action = Some SetTrue }
-
--- the same of `clock`
-abbrev pub seconds_rule : Rule
-seconds_rule = record (new_rule (codes "seconds")) { long = Some (codes "seconds"); action = Some SetTrue }
-
--- the deck's file, which may be left out, after the other
-abbrev pub deck_file_rule : Rule
-deck_file_rule = new_rule (codes "DECK-FILE")
-
--- an option with a number, which is judged elsewhere: so is what each of the options below has
-abbrev pub samplerate_rule : Rule
-samplerate_rule = record (new_rule (codes "samplerate")) { long = Some (codes "samplerate"); value_names = 1 }
-
--- an option with the name of an analyzer or of a port
-abbrev pub controller_rule : Rule
-controller_rule = record (new_rule (codes "controller")) { long = Some (codes "controller"); value_names = 1 }
-
--- the same. Its id is not that of the deck's sheet, nor are those below of a report's times: so no rows have both
-abbrev pub export_deck_rule : Rule
-export_deck_rule = record (new_rule (codes "export-deck")) { long = Some (codes "deck"); value_names = 1 }
-
--- an option with what a log's counter counts
-abbrev pub unit_rule : Rule
-unit_rule = record (new_rule (codes "unit")) { long = Some (codes "unit"); value_names = 1 }
-
--- an option that is there or not
-abbrev pub live_rule : Rule
-live_rule = record (new_rule (codes "live")) { long = Some (codes "live"); action = Some SetTrue }
-
--- an option with a time of an export
-abbrev pub export_from_rule : Rule
-export_from_rule = record (new_rule (codes "export-from")) { long = Some (codes "from"); value_names = 1 }
-
--- the same
-abbrev pub export_to_rule : Rule
-export_to_rule = record (new_rule (codes "export-to")) { long = Some (codes "to"); value_names = 1 }
-
--- an option with what the parts of a split are called
-abbrev pub part_name_rule : Rule
-part_name_rule = record (new_rule (codes "part-name")) { long = Some (codes "to"); value_names = 1 }
-
--- an option with a number of rows
-abbrev pub rows_rule : Rule
-rows_rule = record (new_rule (codes "rows")) { long = Some (codes "rows"); value_names = 1 }
+rate_rule names = record (value_rule (codes "rate") (codes "rate")) { parser = Some (parser.Names names) }
 
 -- the word of a verb
 abbrev pub name_of : Verb → Text
@@ -177,86 +95,69 @@ name_of verb.ConvertSaleae = codes "convert saleae"
 name_of verb.ConvertLog = codes "convert log"
 name_of verb.Split = codes "split"
 
--- what each subcommand has that judges, but `try` and `touches`: the word of its verb, and then the file and the options of the panel, of the capture's
--- beginning, of the rate and of the deck's sheet
-abbrev pub plain_app_for : RateNames → Verb → App
-plain_app_for names verb =
-    with_rule (with_rule (with_rule (with_rule (with_rule (new_app (name_of verb)) file_rule) hands_rule) sync_rule) (rate_rule names)) deck_rule
+-- what a subcommand takes that judges, but `try` and `touches`: the file, and the options of the panel, of the capture's beginning, of
+-- the rate and of the deck's sheet
+abbrev pub judged_rules : RateNames → List Rule
+judged_rules names =
+    file_rule (codes "FILE") ∷ switch_rule (codes "hands") ∷ switch_rule (codes "sync") ∷ rate_rule names ∷ value_rule (codes "deck") (codes "deck")
+    ∷ []
 
-abbrev pub with_bytes_rule : App → App
-with_bytes_rule app = with_rule app bytes_rule
+-- what `try` and `touches` take, which are not told whether somebody may have touched the panel: the same without the option of it
+abbrev pub handless_rules : RateNames → List Rule
+handless_rules names = file_rule (codes "FILE") ∷ switch_rule (codes "sync") ∷ rate_rule names ∷ value_rule (codes "deck") (codes "deck") ∷ []
 
-abbrev pub with_all_rules : App → App
-with_all_rules app = with_rule (with_rule app all_rule) line_buffered_rule
+-- the options that go on after a break, and that hand each line on at once
+abbrev pub all_rules : List Rule
+all_rules = switch_rule (codes "all") ∷ switch_rule (codes "line-buffered") ∷ []
 
-abbrev pub with_quiet_rule : App → App
-with_quiet_rule app = with_rule app quiet_rule
+-- the same, after the option that tells exchanges with their bytes
+abbrev pub told_rules : List Rule
+told_rules = switch_rule (codes "bytes") ∷ all_rules
 
-abbrev pub with_stretch_rules : App → App
-with_stretch_rules app = with_rule (with_rule app from_rule) to_rule
+-- the options of the stretch that is shown
+abbrev pub stretch_rules : List Rule
+stretch_rules = value_rule (codes "from") (codes "from") ∷ value_rule (codes "to") (codes "to") ∷ []
 
-abbrev pub with_picture_rules : App → App
-with_picture_rules app = with_rule (with_rule app at_rule) width_rule
+-- the options of a picture
+abbrev pub picture_rules : List Rule
+picture_rules = value_rule (codes "at") (codes "at") ∷ value_rule (codes "width") (codes "width") ∷ []
 
-abbrev pub clock_app : App
-clock_app = with_rule (with_rule (new_app (name_of verb.Clock)) file_rule) seconds_rule
+-- the options of the two sources of an export's bytes. Its ids are none of a report's: so no rows have both
+abbrev pub source_rules : List Rule
+source_rules = value_rule (codes "controller") (codes "controller") ∷ value_rule (codes "export-deck") (codes "deck") ∷ []
 
-abbrev pub info_app_for : RateNames → App
-info_app_for names = with_rule (with_rule (with_rule (new_app (name_of verb.Info)) file_rule) sync_rule) (rate_rule names)
+-- the options of the times between which an export is converted
+abbrev pub time_rules : List Rule
+time_rules = value_rule (codes "export-from") (codes "from") ∷ value_rule (codes "export-to") (codes "to") ∷ []
 
--- what each has that is not told whether somebody may have touched the panel: the same without the option of it
-abbrev pub handless_app_for : RateNames → Verb → App
-handless_app_for names verb = with_rule (with_rule (with_rule (with_rule (new_app (name_of verb)) file_rule) sync_rule) (rate_rule names)) deck_rule
+-- what the subcommand of a verb takes, in the order in which `help` lists it
+abbrev pub rules_of : RateNames → Verb → List Rule
+rules_of names verb.Check = judged_rules names ++ all_rules
+rules_of names verb.Explain = judged_rules names ++ told_rules
+rules_of names verb.Run = judged_rules names
+rules_of names verb.Why = judged_rules names ++ all_rules ++ switch_rule (codes "quiet") ∷ []
+rules_of names verb.Digest = judged_rules names ++ told_rules ++ stretch_rules
+rules_of names verb.Delays = judged_rules names ++ told_rules ++ stretch_rules
+rules_of names verb.Motion = judged_rules names ++ told_rules ++ stretch_rules
+rules_of names verb.Json = judged_rules names ++ told_rules ++ stretch_rules
+rules_of names verb.JsonCheck = judged_rules names ++ all_rules ++ stretch_rules
+rules_of names verb.JsonExplain = judged_rules names ++ told_rules ++ stretch_rules
+rules_of names verb.JsonRun = judged_rules names
+rules_of names verb.JsonWhy = judged_rules names ++ all_rules ++ stretch_rules
+rules_of names verb.Clock = file_rule (codes "FILE") ∷ switch_rule (codes "seconds") ∷ []
+rules_of names verb.Info = file_rule (codes "FILE") ∷ switch_rule (codes "sync") ∷ rate_rule names ∷ []
+rules_of names verb.Try = handless_rules names ++ switch_rule (codes "all") ∷ []
+rules_of names verb.Touches = handless_rules names
+rules_of names verb.Picture = judged_rules names ++ all_rules ++ picture_rules
+rules_of names verb.Page = judged_rules names ++ told_rules ++ stretch_rules
+rules_of names verb.ConvertSigrok = file_rule (codes "FILE") ∷ value_rule (codes "samplerate") (codes "samplerate") ∷ time_rules
+rules_of names verb.ConvertSaleae = file_rule (codes "FILE") ∷ file_rule (codes "DECK-FILE") ∷ source_rules ++ time_rules
+rules_of names verb.ConvertLog = file_rule (codes "FILE") ∷ source_rules ++ value_rule (codes "unit") (codes "unit") ∷ switch_rule (codes "live") ∷ time_rules
+rules_of names verb.Split = file_rule (codes "FILE") ∷ value_rule (codes "part-name") (codes "to") ∷ value_rule (codes "rows") (codes "rows") ∷ []
 
-abbrev pub try_app_for : RateNames → App
-try_app_for names = with_rule (handless_app_for names verb.Try) all_rule
-
--- a subcommand that makes a capture of an export, or that cuts one: the word of its verb, and then the file
-abbrev pub file_app_for : Verb → App
-file_app_for verb = with_rule (new_app (name_of verb)) file_rule
-
-abbrev pub with_source_rules : App → App
-with_source_rules app = with_rule (with_rule app controller_rule) export_deck_rule
-
-abbrev pub with_time_rules : App → App
-with_time_rules app = with_rule (with_rule app export_from_rule) export_to_rule
-
-abbrev pub sigrok_app : App
-sigrok_app = with_time_rules (with_rule (file_app_for verb.ConvertSigrok) samplerate_rule)
-
-abbrev pub saleae_app : App
-saleae_app = with_time_rules (with_source_rules (with_rule (file_app_for verb.ConvertSaleae) deck_file_rule))
-
-abbrev pub log_app : App
-log_app = with_time_rules (with_rule (with_rule (with_source_rules (file_app_for verb.ConvertLog)) unit_rule) live_rule)
-
-abbrev pub split_app : App
-split_app = with_rule (with_rule (file_app_for verb.Split) part_name_rule) rows_rule
-
--- the subcommand of a verb
+-- the subcommand of a verb: its word, and then each of these in turn
 abbrev pub app_for : RateNames → Verb → App
-app_for names verb.Check = with_all_rules (plain_app_for names verb.Check)
-app_for names verb.Explain = with_all_rules (with_bytes_rule (plain_app_for names verb.Explain))
-app_for names verb.Run = plain_app_for names verb.Run
-app_for names verb.Why = with_quiet_rule (with_all_rules (plain_app_for names verb.Why))
-app_for names verb.Digest = with_stretch_rules (with_all_rules (with_bytes_rule (plain_app_for names verb.Digest)))
-app_for names verb.Delays = with_stretch_rules (with_all_rules (with_bytes_rule (plain_app_for names verb.Delays)))
-app_for names verb.Motion = with_stretch_rules (with_all_rules (with_bytes_rule (plain_app_for names verb.Motion)))
-app_for names verb.Json = with_stretch_rules (with_all_rules (with_bytes_rule (plain_app_for names verb.Json)))
-app_for names verb.JsonCheck = with_stretch_rules (with_all_rules (plain_app_for names verb.JsonCheck))
-app_for names verb.JsonExplain = with_stretch_rules (with_all_rules (with_bytes_rule (plain_app_for names verb.JsonExplain)))
-app_for names verb.JsonRun = plain_app_for names verb.JsonRun
-app_for names verb.JsonWhy = with_stretch_rules (with_all_rules (plain_app_for names verb.JsonWhy))
-app_for names verb.Clock = clock_app
-app_for names verb.Info = info_app_for names
-app_for names verb.Try = try_app_for names
-app_for names verb.Touches = handless_app_for names verb.Touches
-app_for names verb.Picture = with_picture_rules (with_all_rules (plain_app_for names verb.Picture))
-app_for names verb.Page = with_stretch_rules (with_all_rules (with_bytes_rule (plain_app_for names verb.Page)))
-app_for names verb.ConvertSigrok = sigrok_app
-app_for names verb.ConvertSaleae = saleae_app
-app_for names verb.ConvertLog = log_app
-app_for names verb.Split = split_app
+app_for names verb = fold with_rule (new_app (name_of verb)) (rules_of names verb)
 
 -- the program, which wants a subcommand, and has a version; its own name is not among the words
 abbrev pub top : App
@@ -332,24 +233,24 @@ report_of verb.Check all bytes seconds = shown all view.Verdict
 report_of verb.Explain all bytes seconds = shown all (view.Explain (detail_of bytes))
 report_of verb.Run all bytes seconds = Run
 report_of verb.Why all bytes seconds = shown all view.Why
-report_of verb.Digest all bytes seconds = Made made.Digest (extent_of all)
-report_of verb.Delays all bytes seconds = Made made.Delays (extent_of all)
-report_of verb.Motion all bytes seconds = Made made.Motion (extent_of all)
-report_of verb.Json all bytes seconds = Made (made.Json (view.Explain (detail_of bytes))) (extent_of all)
-report_of verb.JsonCheck all bytes seconds = Made (made.Json view.Verdict) (extent_of all)
-report_of verb.JsonExplain all bytes seconds = Made (made.Json (view.Explain (detail_of bytes))) (extent_of all)
-report_of verb.JsonRun all bytes seconds = JsonRun
-report_of verb.JsonWhy all bytes seconds = Made (made.Json view.Why) (extent_of all)
-report_of verb.Clock all bytes seconds = Clock (form_of seconds)
-report_of verb.Info all bytes seconds = Info
-report_of verb.Try all bytes seconds = Try (extent_of all)
-report_of verb.Touches all bytes seconds = Touches
-report_of verb.Picture all bytes seconds = Picture (extent_of all)
-report_of verb.Page all bytes seconds = Page
-report_of verb.ConvertSigrok all bytes seconds = Convert export.Sigrok
-report_of verb.ConvertSaleae all bytes seconds = Convert export.Saleae
-report_of verb.ConvertLog all bytes seconds = Convert export.Log
-report_of verb.Split all bytes seconds = Split
+report_of verb.Digest all bytes seconds = Made (made.Digest (extent_of all))
+report_of verb.Delays all bytes seconds = Made (made.Delays (extent_of all))
+report_of verb.Motion all bytes seconds = Made (made.Motion (extent_of all))
+report_of verb.Json all bytes seconds = Made (made.Json (view.Explain (detail_of bytes)) (extent_of all))
+report_of verb.JsonCheck all bytes seconds = Made (made.Json view.Verdict (extent_of all))
+report_of verb.JsonExplain all bytes seconds = Made (made.Json (view.Explain (detail_of bytes)) (extent_of all))
+report_of verb.JsonRun all bytes seconds = Made made.JsonRun
+report_of verb.JsonWhy all bytes seconds = Made (made.Json view.Why (extent_of all))
+report_of verb.Clock all bytes seconds = Made (made.Clock (form_of seconds))
+report_of verb.Info all bytes seconds = Made made.Info
+report_of verb.Try all bytes seconds = Made (made.Try (extent_of all))
+report_of verb.Touches all bytes seconds = Made made.Touches
+report_of verb.Picture all bytes seconds = Made (made.Picture (extent_of all))
+report_of verb.Page all bytes seconds = Made made.Page
+report_of verb.ConvertSigrok all bytes seconds = Made (made.Convert export.Sigrok)
+report_of verb.ConvertSaleae all bytes seconds = Made (made.Convert export.Saleae)
+report_of verb.ConvertLog all bytes seconds = Made (made.Convert export.Log)
+report_of verb.Split all bytes seconds = Made made.Split
 
 -- with which record the judging begins, where the words say `--sync` or not
 abbrev pub beginning_of : Bool → Beginning

@@ -7,7 +7,7 @@
 //! judging and not after it.
 #![tactic(auto)]
 
-mod exports;
+mod arguments;
 mod hint;
 mod task;
 mod times;

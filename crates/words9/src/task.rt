@@ -10,7 +10,7 @@ use tc25::Rate;
 pub const VERSION_LINE: &str = "ninecheck 2.0.0\n";
 
 /// A subcommand.
-#[derive(Clone, Copy, Debug, PartialEq, Eq)]
+#[derive(Clone, Copy, PartialEq, Eq)]
 pub enum Verb {
     /// Answers the verdict alone: `check`.
     Check,
@@ -59,7 +59,7 @@ pub enum Verb {
 }
 
 /// What a capture is made of.
-#[derive(Clone, Copy, Debug, PartialEq, Eq)]
+#[derive(Clone, Copy, PartialEq, Eq)]
 pub enum Export {
     /// What sigrok-cli printed of both wires.
     Sigrok,
@@ -69,30 +69,17 @@ pub enum Export {
     Log,
 }
 
-/// What is made of the events of a capture, beside the program's own reports.
-#[derive(Clone, Copy, Debug, PartialEq, Eq)]
+/// What is made of a capture, of a text or of an export, beside the reports of a judging.
+#[derive(Clone, Copy, PartialEq, Eq)]
 pub enum Made {
-    /// The commands and what changed, with times; the queries between them are counted.
-    Digest,
-    /// How long the deck took to reply, for each command and overall.
-    Delays,
-    /// What the deck did after each transport command that it acknowledged.
-    Motion,
-    /// A JSON object for each line of the report with this view.
-    Json(View),
-}
-
-/// What is made, and how far the judging goes.
-#[derive(Clone, Copy, Debug, PartialEq, Eq)]
-pub enum Report {
-    /// A run of the deck, and the verdict. The judging ends at the first break.
-    Run,
-    /// What this view shows, and the verdict. The judging ends at the first break.
-    ToBreak(View),
-    /// What this view shows of each part, and the totals. The judging goes on after each break.
-    Parts(View),
-    /// This, of a judging that goes so far.
-    Made(Made, Extent),
+    /// The commands and what changed, with times; the queries between them are counted. The judging goes so far.
+    Digest(Extent),
+    /// How long the deck took to reply, for each command and overall, of a judging that goes so far.
+    Delays(Extent),
+    /// What the deck did after each transport command that it acknowledged, of a judging that goes so far.
+    Motion(Extent),
+    /// A JSON object for each line of the report with this view, of a judging that goes so far.
+    Json(View, Extent),
     /// A JSON object for each line of a run. The judging ends at the first break.
     JsonRun,
     /// A text, with its times in this form. Nothing is judged.
@@ -114,8 +101,21 @@ pub enum Report {
     Split,
 }
 
+/// What is asked for: a report of a judging, or something that is made of the capture.
+#[derive(Clone, Copy, PartialEq, Eq)]
+pub enum Report {
+    /// A run of the deck, and the verdict. The judging ends at the first break.
+    Run,
+    /// What this view shows, and the verdict. The judging ends at the first break.
+    ToBreak(View),
+    /// What this view shows of each part, and the totals. The judging goes on after each break.
+    Parts(View),
+    /// This.
+    Made(Made),
+}
+
 /// What is asked of a picture.
-#[derive(Clone, Copy, Debug, PartialEq, Eq)]
+#[derive(Clone, Copy, PartialEq, Eq)]
 pub struct Drawing {
     /// The number of the record whose break is drawn; none where the first break is.
     pub at: Option<u32>,
@@ -124,7 +124,7 @@ pub struct Drawing {
 }
 
 /// What is asked of a capture, whatever its deck is taken for.
-#[derive(Clone, Copy, Debug, PartialEq, Eq)]
+#[derive(Clone, Copy, PartialEq, Eq)]
 pub struct Asked {
     /// What is made of it, and how far the judging goes.
     pub report: Report,
@@ -141,7 +141,7 @@ pub struct Asked {
 }
 
 /// What the words of an export or of a split say, as they stand; what each may be is judged where it is read.
-#[derive(Debug, Drop, PartialEq, Eq)]
+#[derive(Drop, PartialEq, Eq)]
 pub struct ExportWords {
     /// The deck's file, where an export has a file for each wire.
     pub deck_file: Option<String>,
@@ -166,7 +166,7 @@ pub struct ExportWords {
 }
 
 /// What the words of the command line ask for.
-#[derive(Debug, Drop, PartialEq, Eq)]
+#[derive(Drop, PartialEq, Eq)]
 pub struct Task {
     /// What is asked of the capture.
     pub asked: Asked,
@@ -183,7 +183,7 @@ pub struct Task {
 }
 
 /// Why the words give no task.
-#[derive(Debug, Drop)]
+#[derive(Drop)]
 pub enum WordsFault {
     /// The words are no command, or they ask for help. The `Display` of the error, where there is one, is the
     /// text for the user.
@@ -197,7 +197,7 @@ pub enum WordsFault {
 }
 
 /// An option with a value that it can't have. Its `Display` is the text for the user.
-#[derive(Debug, Drop, PartialEq, Eq)]
+#[derive(Drop, PartialEq, Eq)]
 pub struct NoValue {
     /// The option's name, without the hyphens.
     pub option: &'static str,

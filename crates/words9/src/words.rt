@@ -20,7 +20,7 @@ use tc25::Rate;
 /// The task that these words give: those of the command line after the program's own name.
 ///
 /// The words are a subcommand, with it at most one file (two with `convert saleae`) and, before or after it, each at most once the
-/// options that the subcommand has (`app_for` of the definitions); or they are `--version` or `-V`. `json` may have the word `check`,
+/// options that the subcommand has (`rules_of` of the definitions); or they are `--version` or `-V`. `json` may have the word `check`,
 /// `explain`, `run` or `why` right behind it, and `convert` has `sigrok`, `saleae` or `log` there; the two are one subcommand. What
 /// else the words may look like is `clap`'s own definition: so a value that begins with a minus sign needs the equals sign before it,
 /// as in `--from=-1.5`.
@@ -246,24 +246,24 @@ fn report_of(verb: Verb, all: bool, bytes: bool, seconds: bool) -> Report
         Verb::Explain => shown(all, explained),
         Verb::Why => shown(all, View::Why),
         Verb::Run => Report::Run,
-        Verb::Digest => Report::Made(Made::Digest, extent_of(all)),
-        Verb::Delays => Report::Made(Made::Delays, extent_of(all)),
-        Verb::Motion => Report::Made(Made::Motion, extent_of(all)),
-        Verb::Json | Verb::JsonExplain => Report::Made(Made::Json(explained), extent_of(all)),
-        Verb::JsonCheck => Report::Made(Made::Json(View::Verdict), extent_of(all)),
-        Verb::JsonWhy => Report::Made(Made::Json(View::Why), extent_of(all)),
-        Verb::JsonRun => Report::JsonRun,
-        Verb::Clock if seconds => Report::Clock(TimeForm::Seconds),
-        Verb::Clock => Report::Clock(TimeForm::Clock),
-        Verb::Info => Report::Info,
-        Verb::Try => Report::Try(extent_of(all)),
-        Verb::Touches => Report::Touches,
-        Verb::Picture => Report::Picture(extent_of(all)),
-        Verb::Page => Report::Page,
-        Verb::ConvertSigrok => Report::Convert(Export::Sigrok),
-        Verb::ConvertSaleae => Report::Convert(Export::Saleae),
-        Verb::ConvertLog => Report::Convert(Export::Log),
-        Verb::Split => Report::Split,
+        Verb::Digest => Report::Made(Made::Digest(extent_of(all))),
+        Verb::Delays => Report::Made(Made::Delays(extent_of(all))),
+        Verb::Motion => Report::Made(Made::Motion(extent_of(all))),
+        Verb::Json | Verb::JsonExplain => Report::Made(Made::Json(explained, extent_of(all))),
+        Verb::JsonCheck => Report::Made(Made::Json(View::Verdict, extent_of(all))),
+        Verb::JsonWhy => Report::Made(Made::Json(View::Why, extent_of(all))),
+        Verb::JsonRun => Report::Made(Made::JsonRun),
+        Verb::Clock if seconds => Report::Made(Made::Clock(TimeForm::Seconds)),
+        Verb::Clock => Report::Made(Made::Clock(TimeForm::Clock)),
+        Verb::Info => Report::Made(Made::Info),
+        Verb::Try => Report::Made(Made::Try(extent_of(all))),
+        Verb::Touches => Report::Made(Made::Touches),
+        Verb::Picture => Report::Made(Made::Picture(extent_of(all))),
+        Verb::Page => Report::Made(Made::Page),
+        Verb::ConvertSigrok => Report::Made(Made::Convert(Export::Sigrok)),
+        Verb::ConvertSaleae => Report::Made(Made::Convert(Export::Saleae)),
+        Verb::ConvertLog => Report::Made(Made::Convert(Export::Log)),
+        Verb::Split => Report::Made(Made::Split),
     }
 }
 
