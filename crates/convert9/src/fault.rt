@@ -5,7 +5,7 @@ use std::alloc::{AllocError, Global};
 use std::io;
 
 /// Why an export was not converted to its end.
-#[derive(Debug, Drop)]
+#[derive(Drop)]
 pub enum ConvertFault {
     /// A word is wrong, or a line of the export.
     Refused(Refusal),
@@ -18,7 +18,7 @@ pub enum ConvertFault {
 }
 
 /// What is wrong, and where.
-#[derive(Debug, Drop, PartialEq, Eq)]
+#[derive(Drop, PartialEq, Eq)]
 pub struct Refusal {
     /// The number of the line, counted from 1; 0 before the first.
     pub line: u64,
@@ -29,7 +29,7 @@ pub struct Refusal {
 }
 
 /// In what something is wrong.
-#[derive(Clone, Copy, Debug, PartialEq, Eq)]
+#[derive(Clone, Copy, PartialEq, Eq)]
 pub enum Wrong {
     /// The words of the command line.
     Words,

@@ -24,7 +24,7 @@ pub struct SplitWords<'a> {
 }
 
 /// What became of a split.
-#[derive(Debug, Drop)]
+#[derive(Drop)]
 pub struct Split {
     /// How many parts there are now. Where it ended early, all but the last are whole, and each is a capture.
     pub parts: u32,
@@ -33,7 +33,7 @@ pub struct Split {
 }
 
 /// Why a split ended early.
-#[derive(Debug, Drop)]
+#[derive(Drop)]
 pub enum SplitFault {
     /// A word is wrong, the capture has no place to cut, or a part can't be made or written.
     Refused(Refusal),

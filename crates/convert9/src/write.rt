@@ -15,7 +15,7 @@ use std::io::Write;
 use std::marker::Model;
 
 /// Why a record, or a capture, was not written.
-#[derive(Clone, Copy, Debug, PartialEq, Eq)]
+#[derive(Clone, Copy, PartialEq, Eq)]
 pub enum RowFault {
     /// A capture can't have this record: its time is below that of the record before, or has more than fifteen digits, or there are
     /// 4,294,967,294 already.

@@ -2,6 +2,7 @@
 
 use crate::digits::{number_of, signed};
 use crate::seconds::read_seconds;
+use jiff_core::civil::Date;
 
 /// Whether this is a date, as `2024-03-01`, in the calendar or not.
 pub(super) fn is_date(text: &[u8]) -> bool {
@@ -46,44 +47,11 @@ pub(super) fn since_midnight(clock: &[u8]) -> Option<i64> {
     )
 }
 
-/// A day's number in the calendar; none where there is no such day. The year is taken to begin in March, so that the day of a leap year is
-/// its last.
+/// A day's number in the calendar; none where there is no such day.
 pub(super) fn day_number(date: &[u8]) -> Option<i64> {
-    let (year, month, day) = (
-        number_in(date, 0, 4),
-        number_in(date, 5, 7),
-        number_in(date, 8, 10),
-    );
-    if day < 1 || day > days_of(month, year) {
-        return None;
-    }
-    let (year, month, day) = (signed(year), signed(month), signed(day));
-    let (year, month) = if month < 3 {
-        (year.saturating_sub(1), month.saturating_add(12))
-    } else {
-        (year, month)
-    };
-    let days_of_months = month.saturating_mul(153).saturating_sub(457) / 5;
-    let days_of_years = year
-        .saturating_mul(365)
-        .saturating_add(year / 4)
-        .saturating_sub(year / 100)
-        .saturating_add(year / 400);
-    Some(
-        days_of_years
-            .saturating_add(days_of_months)
-            .saturating_add(day),
-    )
-}
-
-/// How many days a month has; 0 where there is no such month.
-fn days_of(month: u64, year: u64) -> u64 {
-    let is_leap = year % 4 == 0 && (year % 100 != 0 || year % 400 == 0);
-    match month {
-        2 if is_leap => 29,
-        2 => 28,
-        4 | 6 | 9 | 11 => 30,
-        1..=12 => 31,
-        _ => 0,
-    }
+    let year = i16::try_from(number_in(date, 0, 4)).ok()?;
+    let month = i8::try_from(number_in(date, 5, 7)).ok()?;
+    let day = i8::try_from(number_in(date, 8, 10)).ok()?;
+    let date = Date::new(year, month, day).ok()?;
+    Some(i64::from(date.to_unix_epoch_day()))
 }

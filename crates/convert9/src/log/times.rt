@@ -1,7 +1,7 @@
 //! What the times of a log tell of its clock.
 
 /// What there is to say of the times of a log that was converted all the same.
-#[derive(Clone, Copy, Debug, PartialEq, Eq)]
+#[derive(Clone, Copy, PartialEq, Eq)]
 pub enum Notice {
     /// They are whole numbers, which may be a counter, and were read as seconds.
     WholeNumbers,
