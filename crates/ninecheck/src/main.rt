@@ -2,8 +2,10 @@
 //! standard error.
 #![tactic(auto)]
 
+mod maker;
 mod source;
 
+use crate::maker::maker;
 use crate::source::Source;
 use program9::{End, Message, run_program};
 use std::process::ExitCode;
@@ -17,10 +19,8 @@ fn main(rt: HostRuntime) -> ExitCode {
         Some(name) => Ok(Source::File(open_file(&rt, name.as_str())?)),
     };
     let open_other = |file: &String| open_file(&rt, file.as_str());
-    // A file that is there is left as it is.
-    let make_part = |name: &str| fs::File::create_new(&rt, name);
     let out = io::writer(&rt);
-    let (end, _) = run_program(rt.alloc(), words, open_other, open, make_part, out);
+    let (end, _) = run_program(rt.alloc(), words, open_other, open, &maker(&rt), out);
     tell(&rt, &end);
     ExitCode::from(end.status())
 }

@@ -16,8 +16,7 @@ pub(crate) struct Again<'a> {
 impl Again<'_> {
     /// Puts a command that judges the same capture with the same options.
     pub(crate) fn put(&self, html: &mut Markup, subcommand: &'static str) {
-        html.put_mark("ninecheck ");
-        html.put_mark(subcommand);
+        html.put_marks(&["ninecheck ", subcommand]);
         put_word(html, self.options);
         put_word(html, self.file);
     }
@@ -36,6 +35,5 @@ fn put_word(html: &mut Markup, words: &[u8]) {
     if words.is_empty() {
         return;
     }
-    html.put_mark(" ");
-    html.put_foreign(words);
+    html.put_woven(" {t}", &[], &[words]);
 }

@@ -48,7 +48,7 @@ const STEPS_US: [u64; 36] = [
 ];
 
 /// How times are written at the ticks.
-#[derive(Clone, Copy, Debug, PartialEq, Eq)]
+#[derive(Clone, Copy, PartialEq, Eq)]
 pub(crate) enum Clock {
     Seconds,
     Minutes,
@@ -67,7 +67,7 @@ impl Clock {
 }
 
 /// The ticks of the axis.
-#[derive(Clone, Copy, Debug, PartialEq, Eq)]
+#[derive(Clone, Copy, PartialEq, Eq)]
 pub(crate) struct Axis {
     span: Span,
     /// How far the ticks are apart, in microseconds.
@@ -114,18 +114,11 @@ impl Axis {
     /// Puts the time of a tick.
     pub(crate) fn put_tick(self, html: &mut Markup, us: u64) {
         let seconds = us / 1_000_000;
+        let (minutes, hours) = (seconds / 60, seconds / 3_600);
         match self.clock {
-            Clock::Seconds => html.put_whole("", seconds),
-            Clock::Minutes => html.put_whole("", seconds / 60),
-            Clock::Hours => {
-                html.put_whole("", seconds / 3_600);
-                html.put_mark(":");
-                put_padded(html, seconds / 60 % 60, 2);
-            }
-        }
-        if self.clock != Clock::Seconds {
-            html.put_mark(":");
-            put_padded(html, seconds % 60, 2);
+            Clock::Seconds => html.put_filled("{n}", &[seconds]),
+            Clock::Minutes => html.put_filled("{n}:{d}", &[minutes, seconds % 60]),
+            Clock::Hours => html.put_filled("{n}:{d}:{d}", &[hours, minutes % 60, seconds % 60]),
         }
         self.put_decimals(html, us);
     }

@@ -1,10 +1,10 @@
 //! Traffic and the delays of replies over time, in bins that grow with the session.
 
+use crate::growing::Growing;
 use crate::html::BreakId;
 use crate::span::Window;
-use picture9::Done;
-use std::alloc::{AllocError, Global};
-use view9::SeenExchange;
+use seen9::SeenExchange;
+use std::alloc::Global;
 
 /// The top of the delays that are drawn, in microseconds.
 pub(crate) const MOST_DRAWN_US: u64 = 14_000;
@@ -119,7 +119,7 @@ pub(crate) struct Bins {
     window: Window,
     /// How long each one is, in microseconds: a power of ten.
     width_us: u64,
-    bins: Vec<Bin>,
+    bins: Growing<Bin>,
     /// How many exchanges they have.
     exchanges: u64,
 }
@@ -129,7 +129,7 @@ pub(crate) struct Bins {
 pub(crate) struct DrawnBins {
     /// How long each one is, in microseconds, but for the last one, which ends with the session.
     pub(crate) width_us: u64,
-    pub(crate) bins: Vec<Bin>,
+    pub(crate) bins: Growing<Bin>,
 }
 
 impl Bins {
@@ -139,7 +139,7 @@ impl Bins {
             alloc,
             window,
             width_us: LEAST_US,
-            bins: Vec::new(alloc),
+            bins: Growing::new(alloc),
             exchanges: 0,
         }
     }
@@ -150,67 +150,67 @@ impl Bins {
     }
 
     /// Counts an exchange in the bin in which it ends.
-    pub(crate) fn exchange(&mut self, seen: &SeenExchange<'_>) -> Done {
+    pub(crate) fn exchange(&mut self, seen: &SeenExchange<'_>) {
         self.exchanges = self.exchanges.saturating_add(1);
-        let place = self.place_of(seen.end_us)?;
-        if let Some(bin) = self.bins.get_mut(place) {
+        if let Some(bin) = self.bin_of(seen.end_us) {
             bin.count(seen.exchange.delay_us);
         }
-        Ok(())
     }
 
     /// Takes a late reply.
-    pub(crate) fn late(&mut self, late: LateDot) -> Done {
-        let place = self.place_of(late.time_us)?;
-        if let Some(bin) = self.bins.get_mut(place) {
+    pub(crate) fn late(&mut self, late: LateDot) {
+        if let Some(bin) = self.bin_of(late.time_us) {
             bin.take_late(late);
         }
-        Ok(())
     }
 
-    /// The place of the bin of a time, which is there then.
-    fn place_of(&mut self, us: u64) -> Result<usize, AllocError> {
+    /// Whether memory was refused for a bin.
+    pub(crate) fn is_short(&self) -> bool {
+        self.bins.is_short()
+    }
+
+    /// The bin of a time, unless memory is refused for it.
+    fn bin_of(&mut self, us: u64) -> Option<&mut Bin> {
         let since_us = self.window.since(us);
-        self.widen_for(since_us)?;
+        self.widen_for(since_us);
         let place = since_us.checked_div(self.width_us).unwrap_or(0);
-        self.fill_to(place)?;
-        Ok(place as usize)
+        self.fill_to(place);
+        self.bins.as_mut_slice().get_mut(place as usize)
     }
 
     /// Makes the bins so wide that this time has one of the most that there may be.
-    fn widen_for(&mut self, since_us: u64) -> Done {
+    fn widen_for(&mut self, since_us: u64) {
         for _ in 0..20 {
             if since_us.checked_div(self.width_us).unwrap_or(0) < MOST_FINE {
                 break;
             }
-            let joined = joined_by(self.alloc, self.bins.as_slice(), 10)?;
-            self.bins = joined;
+            let narrow = self.bins.take_all();
+            push_joined(&mut self.bins, narrow.as_slice(), 10);
             self.width_us = self.width_us.saturating_mul(10);
         }
-        Ok(())
     }
 
     /// Adds empty bins up to this place.
-    fn fill_to(&mut self, place: u64) -> Done {
+    fn fill_to(&mut self, place: u64) {
         for _ in self.bins.len() as u64..=place.min(MOST_FINE) {
-            self.bins.push(Bin::EMPTY)?;
+            self.bins.push(Bin::EMPTY);
         }
-        Ok(())
     }
 
     /// The bins as they are drawn of a session that lasts so many microseconds. They have the smallest width of 1, 2 or 5 times a power
     /// of ten, from a millisecond on, that keeps the charts legible: at most 600 bins, and on average six exchanges in each, unless they
     /// are a hundred or fewer. What is left over under half a bin joins the one before.
-    pub(crate) fn drawn(&self, lasts_us: u64) -> Result<DrawnBins, AllocError> {
+    pub(crate) fn drawn(&self, lasts_us: u64) -> DrawnBins {
         let width_us = self.drawn_width_us(lasts_us);
         let by = width_us.checked_div(self.width_us).unwrap_or(1).max(1);
-        let mut bins = joined_by(self.alloc, self.bins.as_slice(), by as usize)?;
+        let mut bins = Growing::new(self.alloc);
+        push_joined(&mut bins, self.bins.as_slice(), by as usize);
         let wanted = bins_in(lasts_us, width_us);
         let full_us = wanted.saturating_sub(1).saturating_mul(width_us);
         let is_short = wanted > 1 && lasts_us.saturating_sub(full_us) < width_us / 2;
         let wanted = if is_short { wanted - 1 } else { wanted };
-        fit(&mut bins, wanted)?;
-        Ok(DrawnBins { width_us, bins })
+        fit(&mut bins, wanted);
+        DrawnBins { width_us, bins }
     }
 
     /// How wide the bins are that are drawn, in microseconds.
@@ -251,19 +251,12 @@ fn bins_in(lasts_us: u64, width_us: u64) -> u64 {
         .saturating_add(1)
 }
 
-/// The bins joined by so many.
-fn joined_by(alloc: Global, bins: &[Bin], by: usize) -> Result<Vec<Bin>, AllocError> {
-    let mut joined = Vec::new(alloc);
-    push_joined(&mut joined, bins, by.max(1))?;
-    Ok(joined)
-}
-
 /// Pushes the bins joined by so many.
-fn push_joined(joined: &mut Vec<Bin>, bins: &[Bin], by: usize) -> Done {
+fn push_joined(joined: &mut Growing<Bin>, bins: &[Bin], by: usize) {
     let mut place = 0usize;
     for bin in bins {
         if place == 0 {
-            joined.push(*bin)?;
+            joined.push(*bin);
         } else if let Some(last) = joined.last_mut() {
             last.join(bin);
         }
@@ -273,13 +266,12 @@ fn push_joined(joined: &mut Vec<Bin>, bins: &[Bin], by: usize) -> Done {
             place.saturating_add(1)
         };
     }
-    Ok(())
 }
 
 /// Makes so many bins of these: those behind the last one join it.
-fn fit(bins: &mut Vec<Bin>, wanted: u64) -> Done {
+fn fit(bins: &mut Growing<Bin>, wanted: u64) {
     for _ in bins.len() as u64..wanted.min(MOST_FINE) {
-        bins.push(Bin::EMPTY)?;
+        bins.push(Bin::EMPTY);
     }
     for _ in wanted.max(1)..bins.len() as u64 {
         if let Some(last) = bins.pop() {
@@ -288,5 +280,4 @@ fn fit(bins: &mut Vec<Bin>, wanted: u64) -> Done {
             }
         }
     }
-    Ok(())
 }

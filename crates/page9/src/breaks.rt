@@ -19,10 +19,11 @@ use picture9::{BreakPictures, Done, Markup};
 pub(crate) use reasons::ReasonCount;
 use reasons::Reasons;
 use report9::{Beginning, WhyNo};
+use seen9::SeenBreak;
 pub(crate) use sentences::asked_at;
 use sentences::put_sentence;
 use std::alloc::{AllocError, Global};
-use view9::{BreakRun, SeenBreak};
+use view9::BreakRun;
 use why::{put_why, replies_of};
 
 /// How many breaks are listed: the first.
@@ -181,7 +182,7 @@ impl<'a> Breaks<'a> {
         self.replies = self.replies.saturating_add(kept);
         let mut entry = Listed::new(self.alloc, id, broken);
         let time_us = broken.time_us;
-        put_sentence(&mut entry.sentence, self.profile, why, time_us);
+        put_sentence(&mut entry.sentence, self.profile, why, time_us)?;
         put_why(&mut entry.why, self.profile, why, most)?;
         put_list(&mut entry.replies, &mut self.times, self.profile, why, most)?;
         Ok(self.listed.push(entry)?)

@@ -1,8 +1,8 @@
 //! The charts of traffic and of the delays of replies: steps over bins of time.
 
 use crate::bins::{Bin, DrawnBins, LateDot, MOST_DRAWN_US};
-use crate::html::{begin_path, end_path, put_clock};
-use crate::mark_rows::{put_mark_html, put_more};
+use crate::break_lanes::{put_mark_html, put_more};
+use crate::html::{begin_path, end_path};
 use crate::session::{begin_lane, begin_lane_chart};
 use crate::span::{Span, Window};
 use crate::traffic::{Traffic, put_rate, round_above};
@@ -55,12 +55,10 @@ pub(crate) fn put_traffic(html: &mut Markup, span: Span, bins: &DrawnBins) -> Do
 /// Puts how wide bins are.
 fn put_width(html: &mut Markup, width_us: u64) {
     if width_us < 1_000_000 {
-        html.put_whole("", width_us / 1_000);
-        html.put_mark(" ms");
-        return;
+        html.put_filled("{n} ms", &[width_us / 1_000]);
+    } else {
+        html.put_filled("{c} s", &[width_us / 1_000_000]);
     }
-    html.put_thousands(width_us / 1_000_000);
-    html.put_mark(" s");
 }
 
 /// How many exchanges a second there are in a bin.
@@ -135,18 +133,17 @@ pub(crate) fn put_delay_lane(
         "</span>"
     });
     begin_lane_chart(html, DELAYS_TALL);
-    html.put_mark("Reply delay over time: the greatest and the middle of each bin</title>");
-    html.put_mark("<desc>From 0 to 14,000 microseconds, with the limit of ");
-    html.put_thousands(REPLY_LIMIT_US);
-    html.put_mark(". The numbers stand under Delays by command.</desc><use href=\"#g\"/>\n");
+    html.put_filled(
+        "Reply delay over time: the greatest and the middle of each bin</title><desc>From 0 to 14,000 microseconds, with the limit of {c}. The numbers stand under Delays by command.</desc><use href=\"#g\"/>\n",
+        &[REPLY_LIMIT_US],
+    );
     put_delay_lines(html, span, bins)?;
     html.put_mark("</svg>\n");
     put_dots(html, span, window, bins);
-    html.put_mark(
-        "</div><div class=\"scale\"><span class=\"top\">14,000</span><span class=\"at-limit\">",
+    html.put_filled(
+        "</div><div class=\"scale\"><span class=\"top\">14,000</span><span class=\"at-limit\">{c} limit</span><span class=\"foot\">0</span></div></div>\n",
+        &[REPLY_LIMIT_US],
     );
-    html.put_thousands(REPLY_LIMIT_US);
-    html.put_mark(" limit</span><span class=\"foot\">0</span></div></div>\n");
     Ok(())
 }
 
@@ -157,11 +154,10 @@ fn put_delay_lines(html: &mut Markup, span: Span, bins: &DrawnBins) -> Done {
     put_steps(html, span, &greatest, "great", Some(DELAYS_TALL));
     put_steps(html, span, &greatest, "gline", None);
     put_steps(html, span, &middle, "mid", None);
-    begin_path(html, "limit");
-    html.put_mark("M0 ");
-    html.put_fixed(delay_y(REPLY_LIMIT_US), 1);
-    html.put_mark("H1000");
-    end_path(html);
+    html.put_filled(
+        "<path class=\"limit\" d=\"M0 {1}H1000\"/>",
+        &[delay_y(REPLY_LIMIT_US)],
+    );
     Ok(())
 }
 
@@ -203,42 +199,35 @@ fn put_steps(html: &mut Markup, span: Span, steps: &Steps, look: &'static str, f
     let mut is_open = false;
     let mut from_us = 0u64;
     for height in steps.heights.as_slice() {
-        if let Some(height) = *height {
-            begin_step(html, span, from_us, is_open, foot);
-            html.put_fixed(height, 1);
-        } else if is_open {
-            end_step(html, span, from_us, foot);
+        let x = span.place(from_us);
+        match (*height, is_open) {
+            (Some(height), true) => html.put_filled("H{2}V{1}", &[x, height]),
+            (Some(height), false) => begin_step(html, x, height, foot),
+            (None, true) => end_step(html, x, foot),
+            (None, false) => {}
         }
         is_open = height.is_some();
         from_us = from_us.saturating_add(steps.width_us);
     }
     if is_open {
-        end_step(html, span, span.lasts_us(), foot);
+        end_step(html, span.place(span.lasts_us()), foot);
     }
     end_path(html);
 }
 
-/// Begins a step at a bin's beginning: goes on to it from the one before, where one is open.
-fn begin_step(html: &mut Markup, span: Span, from_us: u64, is_open: bool, foot: Option<u64>) {
-    html.put_mark(if is_open { "H" } else { "M" });
-    span.put_x(html, from_us);
-    match (is_open, foot) {
-        (false, Some(foot)) => {
-            html.put_whole(" ", foot);
-            html.put_mark("V")
-        }
-        (false, None) => html.put_mark(" "),
-        (true, _) => html.put_mark("V"),
+/// Begins steps, and the area where there is a foot.
+fn begin_step(html: &mut Markup, x: u64, height: u64, foot: Option<u64>) {
+    match foot {
+        Some(foot) => html.put_filled("M{2} {n}V{1}", &[x, foot, height]),
+        None => html.put_filled("M{2} {1}", &[x, height]),
     }
 }
 
-/// Ends a step, and closes the area.
-fn end_step(html: &mut Markup, span: Span, to_us: u64, foot: Option<u64>) {
-    html.put_mark("H");
-    span.put_x(html, to_us);
-    if let Some(foot) = foot {
-        html.put_whole("V", foot);
-        html.put_mark("Z");
+/// Ends steps, and closes the area.
+fn end_step(html: &mut Markup, x: u64, foot: Option<u64>) {
+    match foot {
+        Some(foot) => html.put_filled("H{2}V{n}Z", &[x, foot]),
+        None => html.put_filled("H{2}", &[x]),
     }
 }
 
@@ -254,19 +243,14 @@ fn put_dots(html: &mut Markup, span: Span, window: Window, bins: &DrawnBins) {
 /// Puts the dot of the slowest of so many late replies.
 fn put_dot(html: &mut Markup, span: Span, window: Window, dot: &LateDot, replies: u32) {
     let mut words = Markup::new(html.alloc());
-    words.put_mark("Late reply, ");
-    words.put_thousands(dot.delay_us);
-    words.put_mark(" &micro;s, record ");
-    words.put_thousands(u64::from(dot.at));
-    words.put_mark(", ");
-    put_clock(&mut words, dot.time_us);
+    words.put_filled(
+        "Late reply, {c} &micro;s, record {c}, {h}",
+        &[dot.delay_us, u64::from(dot.at), dot.time_us],
+    );
     put_more(&mut words, u64::from(replies).saturating_sub(1));
     let mut style = Markup::new(html.alloc());
-    style.put_mark("left:");
-    span.put_percent(&mut style, window.since(dot.time_us));
-    style.put_mark(";top:");
-    style.put_fixed(delay_y(dot.delay_us), 1);
-    style.put_mark("px");
+    let x = span.place(window.since(dot.time_us));
+    style.put_filled("left:{3}%;top:{1}px", &[x, delay_y(dot.delay_us)]);
     let look = if dot.delay_us > MOST_DRAWN_US {
         "over"
     } else {

@@ -2,7 +2,6 @@
 
 use crate::page::PageOf;
 use deck9::{Hands, Profile};
-use info9::rate_word;
 use picture9::Done;
 use report9::{Beginning, Stretch, TextBuffer, put_text};
 use std::alloc::{AllocError, Global};
@@ -55,7 +54,7 @@ fn put_options(options: &mut Vec<u8>, page: &PageOf<'_>, profile: &Profile) -> D
     }
     if profile.rate != Rate::Fps25 {
         put_option(options, "--rate ")?;
-        put_text(options, rate_word(profile.rate))?;
+        put_text(options, profile.rate.word())?;
     }
     if let Some(sheet) = page.sheet {
         put_option(options, "--deck ")?;

@@ -4,10 +4,10 @@
 //! folds begin as minutes, and as soon as the session has become too long for them those so far are merged to wider ones. A line that
 //! counts queries at the end of a minute then stays inside the wider fold.
 
+use crate::growing::Growing;
 use crate::html::{put_counted, put_hours_and_minutes, put_rest};
 use picture9::{Done, Markup};
 use std::alloc::{AllocError, Global};
-use std::mem::replace;
 
 /// How many lines of a fold are kept.
 const MOST_OF_FOLD: u64 = 200;
@@ -34,7 +34,7 @@ const HOUR_US: u64 = 60 * MINUTE_US;
 const DAY_US: u64 = 24 * HOUR_US;
 
 /// Something that a fold counts.
-#[derive(Clone, Copy, Debug, PartialEq, Eq)]
+#[derive(Clone, Copy, PartialEq, Eq)]
 pub(crate) enum Counted {
     /// A command that does not only ask.
     Command,
@@ -66,9 +66,9 @@ pub(crate) struct Folds {
     began_us: Option<u64>,
     /// How long a fold is, in microseconds.
     width_us: u64,
-    folds: Vec<Fold>,
+    folds: Growing<Fold>,
     /// The lines that are kept, those of each fold after those of the fold before.
-    lines: Vec<Markup>,
+    lines: Growing<Markup>,
     /// How many bytes these have.
     bytes: usize,
 }
@@ -80,34 +80,33 @@ impl Folds {
             alloc,
             began_us: None,
             width_us: MINUTE_US,
-            folds: Vec::new(alloc),
-            lines: Vec::new(alloc),
+            folds: Growing::new(alloc),
+            lines: Growing::new(alloc),
             bytes: 0,
         }
     }
 
     /// Whether what happens at this time belongs to the last fold. Folds are wider from here on where the session has become too long.
-    pub(crate) fn reaches(&mut self, us: u64) -> Result<bool, AllocError> {
+    pub(crate) fn reaches(&mut self, us: u64) -> bool {
         let began_us = self.began_us.unwrap_or(us);
         self.began_us = Some(began_us);
         let width_us = width_of(us.saturating_sub(began_us));
         if width_us > self.width_us {
             self.width_us = width_us;
-            self.merge()?;
+            self.merge();
         }
         match self.folds.last() {
-            Some(fold) => Ok(begin_of(us, self.width_us) <= fold.from_us),
-            None => Ok(false),
+            Some(fold) => begin_of(us, self.width_us) <= fold.from_us,
+            None => false,
         }
     }
 
     /// Begins the fold of a time.
-    pub(crate) fn begin(&mut self, us: u64) -> Done {
+    pub(crate) fn begin(&mut self, us: u64) {
         self.folds.push(Fold {
             from_us: begin_of(us, self.width_us),
             ..Fold::default()
-        })?;
-        Ok(())
+        });
     }
 
     /// Counts something in the last fold.
@@ -132,63 +131,63 @@ impl Folds {
     }
 
     /// Keeps a line.
-    pub(crate) fn keep(&mut self, line: Markup) -> Done {
+    pub(crate) fn keep(&mut self, line: Markup) {
         self.bytes = self.bytes.saturating_add(line.len());
-        self.lines.push(line)?;
-        Ok(())
+        self.lines.push(line);
     }
 
     /// Merges the folds so far to those of the width that they have now.
-    fn merge(&mut self) -> Done {
-        let folds = replace(&mut self.folds, Vec::new(self.alloc));
-        let lines = replace(&mut self.lines, Vec::new(self.alloc));
+    fn merge(&mut self) {
+        let (folds, lines) = (self.folds.take_all(), self.lines.take_all());
         self.bytes = 0;
         let mut from = 0usize;
         for fold in folds.iter() {
             let to = from.saturating_add(fold.kept as usize);
             let of_fold = lines.as_slice().get(from..to).unwrap_or(&[]);
-            self.merge_fold(fold, of_fold)?;
+            self.merge_fold(fold, of_fold);
             from = to;
         }
-        Ok(())
     }
 
     /// Merges a narrower fold into the last one, or into a new one. Of its lines those are kept that still have room there.
-    fn merge_fold(&mut self, fold: &Fold, lines: &[Markup]) -> Done {
+    fn merge_fold(&mut self, fold: &Fold, lines: &[Markup]) {
         let from_us = begin_of(fold.from_us, self.width_us);
         let is_new = match self.folds.last() {
             Some(last) => last.from_us != from_us,
             None => true,
         };
         if is_new {
-            self.begin(from_us)?;
+            self.begin(from_us);
         }
         let Some(last) = self.folds.last_mut() else {
-            return Ok(());
+            return;
         };
         let kept = last.add(fold);
         for line in lines.get(..kept as usize).unwrap_or(&[]) {
             let mut copy = Markup::new(self.alloc);
             copy.put_piece(line);
-            self.keep(copy)?;
+            self.keep(copy);
         }
-        Ok(())
     }
 
-    /// Puts them.
-    pub(crate) fn put(&self, html: &mut Markup) {
+    /// Puts them. An error comes where memory was refused for one, or for a line.
+    pub(crate) fn put(&self, html: &mut Markup) -> Done {
+        if self.folds.is_short() || self.lines.is_short() {
+            return Err(AllocError);
+        }
         if self.folds.is_empty() {
             html.put_mark("<p>Nothing: no exchange is complete.</p>\n");
-            return;
+            return Ok(());
         }
         let is_open = self.lines.len() <= MOST_OPEN;
         let mut from = 0usize;
-        for fold in self.folds.iter() {
+        for fold in self.folds.as_slice() {
             let to = from.saturating_add(fold.kept as usize);
             let lines = self.lines.as_slice().get(from..to).unwrap_or(&[]);
             fold.put(html, lines, is_open);
             from = to;
         }
+        Ok(())
     }
 }
 
@@ -224,11 +223,10 @@ impl Fold {
     /// Puts it with these lines.
     fn put(&self, html: &mut Markup, lines: &[Markup], is_open: bool) {
         html.put_mark(if is_open {
-            "<details open>"
+            "<details open><summary><span>"
         } else {
-            "<details>"
+            "<details><summary><span>"
         });
-        html.put_mark("<summary><span>");
         put_hours_and_minutes(html, self.from_us);
         html.put_mark("</span><span>");
         self.put_counts(html);
@@ -253,8 +251,11 @@ impl Fold {
         }
         if self.breaks > 0 {
             let is_first = self.commands == 0 && self.queries == 0;
-            html.put_mark(if is_first { "" } else { ", " });
-            html.put_mark("<b class=\"bad\">");
+            html.put_mark(if is_first {
+                "<b class=\"bad\">"
+            } else {
+                ", <b class=\"bad\">"
+            });
             put_counted(html, self.breaks, "break", "breaks");
             html.put_mark("</b>");
         }

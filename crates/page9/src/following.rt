@@ -12,19 +12,20 @@ use block9::Reason;
 use deck9::Profile;
 use picture9::Done;
 use report9::{JudgeError, Totals, WhyNo};
+use seen9::{Ending, ExplainedView, MoveSearch, SeenBreak, SeenExchange, View, ViewOf};
 use std::alloc::Global;
-use view9::{Ending, ExplainedView, SeenBreak, SeenExchange, Strength, View, ViewOf};
+use view9::Strength;
 
 /// What the sections of the page have so far.
 #[derive(Drop)]
-pub(crate) struct Following<'a> {
+pub(crate) struct Following<'a, S: MoveSearch> {
     pub(crate) profile: &'a Profile,
     pub(crate) session: Session,
     pub(crate) breaks: Breaks<'a>,
     pub(crate) happened: Happened<'a>,
     pub(crate) delays: DelayTable<'a>,
     pub(crate) look: Look<'a>,
-    pub(crate) touches: Touches<'a>,
+    pub(crate) touches: Touches<'a, S>,
     pub(crate) strength: Strength<'a>,
     pub(crate) totals: Totals,
     /// Why the break came that is told next.
@@ -40,9 +41,14 @@ const NOTHING: Totals = Totals {
     tail: 0,
 };
 
-impl<'a> Following<'a> {
+impl<'a, S: MoveSearch> Following<'a, S> {
     /// Of nothing yet, of what is shown in this window.
-    pub(crate) fn new(alloc: Global, window: Window, of: ViewOf<'a>) -> Following<'a> {
+    pub(crate) fn new(
+        alloc: Global,
+        window: Window,
+        of: ViewOf<'a>,
+        search: &'a S,
+    ) -> Following<'a, S> {
         let profile = of.profile;
         Following {
             profile,
@@ -51,7 +57,7 @@ impl<'a> Following<'a> {
             happened: Happened::new(alloc, profile),
             delays: DelayTable::new(alloc, profile),
             look: Look::new(alloc, profile),
-            touches: Touches::new(alloc, window, of.stretch, profile),
+            touches: Touches::new(alloc, window, of.stretch, profile, search),
             strength: Strength::new(alloc, profile),
             totals: NOTHING,
             why: None,
@@ -60,7 +66,7 @@ impl<'a> Following<'a> {
 
     /// Takes the end of the capture, whose last record came at this time, in microseconds.
     pub(crate) fn end_capture(&mut self, last_us: u64) -> Done {
-        self.session.end_part(last_us)?;
+        self.session.end_part(last_us);
         self.touches.end_part()?;
         self.look.end_part()
     }
@@ -72,10 +78,10 @@ impl<'a> Following<'a> {
         };
         let id = self.breaks.take(why, broken)?;
         let (at, time_us, reason) = (broken.at, broken.time_us, broken.reason);
-        self.session.marks.take(reason, time_us, at, id)?;
+        self.session.marks.take(reason, time_us, at, id);
         if reason == Reason::NoRun {
             let replies_us = self.breaks.contradiction_times();
-            self.session.marks.take_contradiction(replies_us, time_us)?;
+            self.session.marks.take_contradiction(replies_us, time_us);
         }
         if let Some(delay_us) = broken.delay_us {
             self.session.late(LateDot {
@@ -83,22 +89,22 @@ impl<'a> Following<'a> {
                 time_us,
                 at,
                 id,
-            })?;
+            });
         }
         self.happened.broken(broken, id)
     }
 }
 
-impl ExplainedView for Following<'_> {
+impl<S: MoveSearch> ExplainedView for Following<'_, S> {
     fn why(&mut self, why: WhyNo, _is_shown: bool) -> Result<(), JudgeError> {
         self.why = Some(why);
         Ok(())
     }
 }
 
-impl View for Following<'_> {
+impl<S: MoveSearch> View for Following<'_, S> {
     fn exchange(&mut self, seen: &SeenExchange<'_>) -> Result<(), JudgeError> {
-        self.session.exchange(seen)?;
+        self.session.exchange(seen);
         self.breaks.exchange();
         self.happened.exchange(seen)?;
         self.look.exchange(seen)?;
@@ -122,7 +128,7 @@ impl View for Following<'_> {
     }
 
     fn broken(&mut self, broken: &SeenBreak) -> Result<(), JudgeError> {
-        self.session.end_part(broken.time_us)?;
+        self.session.end_part(broken.time_us);
         self.look.end_part()?;
         self.touches.end_part()?;
         if broken.is_shown {

@@ -14,22 +14,21 @@ pub(crate) fn put_footer(
     totals: &Totals,
     again: &Again<'_>,
 ) -> Done {
-    html.put_mark("<footer>\n<p><code>");
     let mut line = Vec::new(html.alloc());
     put_totals_line(&mut line, totals)?;
-    html.put_foreign(line.as_slice().strip_suffix(b"\n").unwrap_or(&[]));
+    let line = line.as_slice().strip_suffix(b"\n").unwrap_or(&[]);
+    html.put_mark("<footer>\n<p><code>");
+    html.put_foreign(line);
     html.put_mark("</code></p>\n<p>Made by <code>");
     again.put_page(html);
     html.put_mark("</code>, ");
-    html.put_foreign(page.version.strip_suffix(b"\n").unwrap_or(&[]));
+    let version = page.version.strip_suffix(b"\n").unwrap_or(&[]);
+    html.put_foreign(version);
     html.put_mark(", from a capture of ");
     put_counted(html, page.text.len() as u64, "byte", "bytes");
-    html.put_whole(
-        " with the <code>cksum</code> ",
-        u64::from(checksum(page.text)),
-    );
-    html.put_mark(
-        ". The page holds no script and loads nothing.</p>\n</footer>\n</main>\n</body>\n</html>\n",
+    html.put_filled(
+        " with the <code>cksum</code> {n}. The page holds no script and loads nothing.</p>\n</footer>\n</main>\n</body>\n</html>\n",
+        &[u64::from(checksum(page.text))],
     );
     Ok(())
 }

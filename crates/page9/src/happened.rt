@@ -8,11 +8,9 @@ use block9::Reason;
 use deck9::Profile;
 use picture9::{Done, Markup};
 use report9::{put_command, put_reply};
+use seen9::{SeenBreak, SeenExchange};
 use std::alloc::{AllocError, Global};
-use view9::{
-    BreakRun, Change, Changes, FIELDS, Field, SeenBreak, SeenExchange, Tally, Text, Value,
-    put_changes,
-};
+use view9::{BreakRun, Change, Changes, FIELDS, Field, Tally, Text, Value, put_changes};
 
 /// What happened in a session.
 #[derive(Drop)]
@@ -114,18 +112,18 @@ impl<'a> Happened<'a> {
             html,
             "Each command, and each query that changed what is known of the deck. The other queries are counted.",
         );
-        self.folds.put(html);
+        self.folds.put(html)?;
         html.put_mark("</section>\n");
         Ok(())
     }
 
     /// Goes on with the fold of this time, or begins it.
     fn open_fold(&mut self, us: u64) -> Done {
-        if self.folds.reaches(us)? {
-            return Ok(());
+        if !self.folds.reaches(us) {
+            self.put_since()?;
+            self.folds.begin(us);
         }
-        self.put_since()?;
-        self.folds.begin(us)
+        Ok(())
     }
 
     /// Puts the line of the queries or of the breaks since the last one.
@@ -145,7 +143,8 @@ impl<'a> Happened<'a> {
         line.put_mark("<li class=\"counts\"><span>");
         put_with_arrows(&mut line, self.text.whole()?);
         end_line(&mut line);
-        self.folds.keep(line)
+        self.folds.keep(line);
+        Ok(())
     }
 
     /// Puts the line of the breaks, where there are some.
@@ -158,7 +157,8 @@ impl<'a> Happened<'a> {
         }
         let mut line = Markup::new(self.alloc);
         run.put(&mut line);
-        self.folds.keep(line)
+        self.folds.keep(line);
+        Ok(())
     }
 
     /// Puts the line of an exchange that is told.
@@ -181,7 +181,8 @@ impl<'a> Happened<'a> {
         );
         put_with_arrows(&mut line, self.text.whole()?);
         end_line(&mut line);
-        self.folds.keep(line)
+        self.folds.keep(line);
+        Ok(())
     }
 
     /// Puts the text of an exchange: the command, the reply, and what they change.

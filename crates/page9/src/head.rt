@@ -1,12 +1,12 @@
 //! The head of the page: how many breaks there are and which, of what capture, judged with what, and what the capture says of itself.
 
 use crate::breaks::{Breaks, ReasonCount};
-use crate::html::{begin_link, end_link, put_clock, put_counted, put_lasting};
+use crate::html::{begin_link, put_counted, put_lasting};
 use crate::page::PageOf;
 use crate::span::Span;
 use crate::style::put_style;
 use deck9::{Hands, Profile};
-use info9::{Sign, rate_word};
+use info9::Sign;
 use picture9::Markup;
 use report9::{Beginning, Totals};
 use tc25::Rate;
@@ -101,25 +101,16 @@ fn put_lead(html: &mut Markup, told: &Told<'_>) {
         put_reasons(html, told.reasons);
         html.put_mark(". The first is ");
         begin_link(html, Some(first.id));
-        html.put_mark("record ");
-        html.put_thousands(u64::from(first.at));
-        end_link(html, Some(first.id));
-        html.put_mark(" at ");
-        put_clock(html, first.time_us);
-        html.put_mark(".");
+        html.put_filled(
+            "record {c}</a> at {h}.",
+            &[u64::from(first.at), first.time_us],
+        );
         return;
     }
     html.put_mark("Record ");
     begin_link(html, Some(first.id));
-    html.put_thousands(u64::from(first.at));
-    end_link(html, Some(first.id));
-    html.put_mark(" at ");
-    put_clock(html, first.time_us);
-    html.put_mark(": ");
-    html.put_mark(first.reason.name());
-    html.put_mark(" ");
-    html.put_mark(first.reason.text());
-    html.put_mark(". ");
+    html.put_filled("{c}</a> at {h}: ", &[u64::from(first.at), first.time_us]);
+    html.put_marks(&[first.reason.name(), " ", first.reason.text(), ". "]);
     html.put_piece(first.sentence);
 }
 
@@ -129,11 +120,9 @@ fn put_reasons(html: &mut Markup, reasons: &[ReasonCount]) {
         if place == 0 {
             put_capital(html, counted.reason.text().as_bytes());
         } else {
-            html.put_mark("; ");
-            html.put_mark(counted.reason.text());
+            html.put_marks(&["; ", counted.reason.text()]);
         }
-        html.put_mark(" ");
-        html.put_thousands(counted.breaks);
+        html.put_filled(" {c}", &[counted.breaks]);
     }
 }
 
@@ -142,8 +131,8 @@ fn put_capital(html: &mut Markup, text: &[u8]) {
     let Some((first, rest)) = text.split_first() else {
         return;
     };
-    html.put_foreign(&[first.to_ascii_uppercase()]);
-    html.put_foreign(rest);
+    let capital = [first.to_ascii_uppercase()];
+    html.put_woven("{tt}", &[], &[&capital, rest]);
 }
 
 /// Puts that there is no break. What stands first then is how much that says.
@@ -157,25 +146,14 @@ fn put_clean(html: &mut Markup, told: &Told<'_>) {
         html.put_mark(". No exchange is complete, so of the deck nothing was tested.");
         return;
     }
-    html.put_mark(
+    let known = [Field::Shown, Field::In, Field::Out, Field::Local].map(|field| told
+        .strength
+        .tenths(told.strength.times_known(field)));
+    html.put_filled(
         ", and a deck can have given these replies. <a href=\"#known\">What was not known</a> was not tested: \
-        shown mode known at ",
+        shown mode known at {1} % of the exchanges, IN at {1} %, OUT at {1} %, local at {1} %.",
+        &known,
     );
-    put_share(html, told, Field::Shown);
-    html.put_mark(" of the exchanges, IN at ");
-    put_share(html, told, Field::In);
-    html.put_mark(", OUT at ");
-    put_share(html, told, Field::Out);
-    html.put_mark(", local at ");
-    put_share(html, told, Field::Local);
-    html.put_mark(".");
-}
-
-/// Puts at which share of the exchanges a field was known.
-fn put_share(html: &mut Markup, told: &Told<'_>, field: Field) {
-    let times = told.strength.times_known(field);
-    html.put_fixed(told.strength.tenths(times), 1);
-    html.put_mark(" %");
 }
 
 /// Puts the signs of the capture, which say what to look at before anybody is blamed; nothing where there is none.
@@ -200,84 +178,65 @@ fn put_signs(html: &mut Markup, signs: &[Option<Sign>]) {
 fn put_facts(html: &mut Markup, told: &Told<'_>) {
     html.put_mark("<div class=\"facts\">\n");
     if let Some(whole) = told.whole {
-        put_time(html, "Begins", whole.from_us);
-        put_time(html, "Ends", whole.to_us);
-        begin_fact(html, "Lasts");
+        html.put_filled(
+            "<dl><dt>Begins</dt><dd>{h}</dd></dl>\n<dl><dt>Ends</dt><dd>{h}</dd></dl>\n<dl><dt>Lasts</dt><dd>",
+            &[whole.from_us, whole.to_us],
+        );
         put_lasting(html, whole.lasts_us());
-        end_fact(html);
+        html.put_mark("</dd></dl>\n");
     }
-    put_count(html, "Records", told.totals.records);
-    put_count(html, "Exchanges", told.totals.exchanges);
-    put_count(html, "Passed over", told.totals.passed_over);
-    put_count(html, "Open at the end", told.totals.tail);
-    html.put_mark("</div>\n");
+    let totals = told.totals;
+    let counts = [
+        totals.records,
+        totals.exchanges,
+        totals.passed_over,
+        totals.tail,
+    ];
+    html.put_filled(
+        "<dl><dt>Records</dt><dd>{c}</dd></dl>\n<dl><dt>Exchanges</dt><dd>{c}</dd></dl>\n\
+        <dl><dt>Passed over</dt><dd>{c}</dd></dl>\n<dl><dt>Open at the end</dt><dd>{c}</dd></dl>\n</div>\n",
+        &counts.map(u64::from),
+    );
     if told.shown == told.whole {
         return;
     }
     html.put_mark("<div class=\"facts\">\n");
     if let Some(shown) = told.shown {
-        put_time(html, "Shown from", shown.from_us);
-        put_time(html, "Shown to", shown.to_us);
+        html.put_filled(
+            "<dl><dt>Shown from</dt><dd>{h}</dd></dl>\n<dl><dt>Shown to</dt><dd>{h}</dd></dl>\n",
+            &[shown.from_us, shown.to_us],
+        );
     }
     html.put_mark("</div>\n");
 }
 
 /// Puts what was assumed of the deck, in words and as the options that say so.
 fn put_judged_with(html: &mut Markup, page: &PageOf<'_>, profile: &Profile, options: &[u8]) {
-    html.put_mark("<div class=\"facts\">\n");
-    begin_fact(html, "Judged with");
-    html.put_mark(match profile.rate {
-        Rate::DropFrame => "29.97 frames a second, drop frame",
-        rate => rate_word(rate),
-    });
-    html.put_mark(match profile.rate {
-        Rate::DropFrame => "",
-        _ => " frames a second",
-    });
-    html.put_mark(match profile.hands {
+    let (rate, frames) = match profile.rate {
+        Rate::DropFrame => ("29.97", " frames a second, drop frame"),
+        rate => (rate.word(), " frames a second"),
+    };
+    let hands = match profile.hands {
         Hands::Allowed => ", somebody may have touched the panel",
         Hands::None => ", nobody at the panel",
-    });
+    };
+    html.put_marks(&[
+        "<div class=\"facts\">\n<dl><dt>Judged with</dt><dd>",
+        rate,
+        frames,
+        hands,
+    ]);
     match page.sheet {
-        Some(sheet) => {
-            html.put_mark(", deck sheet ");
-            html.put_foreign(sheet);
-        }
+        Some(sheet) => html.put_woven(", deck sheet {t}", &[], &[sheet]),
         None => html.put_mark(", no deck sheet"),
     }
     if page.beginning != Beginning::FirstRecord {
         html.put_mark(", from the first record that may begin a command");
     }
-    html.put_mark(" <code>--all");
-    html.put_mark(if options.is_empty() { "" } else { " " });
-    html.put_foreign(options);
-    html.put_mark("</code>");
-    end_fact(html);
-    html.put_mark("</div>\n");
-}
-
-/// Puts a fact up to what it is.
-fn begin_fact(html: &mut Markup, name: &'static str) {
-    html.put_mark("<dl><dt>");
-    html.put_mark(name);
-    html.put_mark("</dt><dd>");
-}
-
-/// Puts the end of a fact.
-fn end_fact(html: &mut Markup) {
-    html.put_mark("</dd></dl>\n");
-}
-
-/// Puts a fact that is a time.
-fn put_time(html: &mut Markup, name: &'static str, us: u64) {
-    begin_fact(html, name);
-    put_clock(html, us);
-    end_fact(html);
-}
-
-/// Puts a fact that is a count.
-fn put_count(html: &mut Markup, name: &'static str, count: u32) {
-    begin_fact(html, name);
-    html.put_thousands(u64::from(count));
-    end_fact(html);
+    let form = if options.is_empty() {
+        " <code>--all</code></dd></dl>\n</div>\n"
+    } else {
+        " <code>--all {t}</code></dd></dl>\n</div>\n"
+    };
+    html.put_woven(form, &[], &[options]);
 }

@@ -1,7 +1,7 @@
 //! How much was known: what is not known of the deck can't contradict a later reply.
 
-use crate::html::{begin_chart, begin_path, end_path, put_note, put_rest};
-use crate::table::{put_row_head, put_table_head};
+use crate::html::{begin_chart, put_note, put_rest};
+use crate::table::put_table_head;
 use picture9::{Done, Markup};
 use view9::{Field, Strength, Text};
 
@@ -40,60 +40,46 @@ pub(crate) fn put_known(html: &mut Markup, strength: &Strength<'_>) -> Done {
 /// Puts the row of a field.
 fn put_row(html: &mut Markup, strength: &Strength<'_>, field: Field, words: &'static str) {
     let (known, set) = (strength.times_known(field), strength.times_set(field));
-    put_row_head(html, words.as_bytes());
-    html.put_mark("<td class=\"picture\">");
+    let share = strength.tenths(known);
+    html.put_marks(&[
+        "<tr><th scope=\"row\">",
+        words,
+        "</th><td class=\"picture\">",
+    ]);
     begin_chart(html, 18);
     html.put_mark(words);
-    html.put_mark(": known at ");
-    put_share(html, strength, known);
-    html.put_mark("</title>");
+    html.put_filled(": known at {1} %</title>", &[share]);
     put_bars(html, strength, known, set);
-    html.put_mark("</svg></td><td>");
-    put_share(html, strength, known);
-    html.put_mark("</td><td>");
     if matches!(field, Field::Shown | Field::Local) {
-        html.put_mark("&ndash;");
+        html.put_filled("<td>{1} %</td><td>&ndash;</td></tr>\n", &[share]);
     } else {
-        put_share(html, strength, set);
+        html.put_filled(
+            "<td>{1} %</td><td>{1} %</td></tr>\n",
+            &[share, strength.tenths(set)],
+        );
     }
-    html.put_mark("</td></tr>\n");
 }
 
 /// Puts the bars of a field: at how many exchanges it was known, and beside that at how many more a register was known to be set.
 fn put_bars(html: &mut Markup, strength: &Strength<'_>, known: u32, set: u32) {
     let exchanges = strength.exchanges();
-    let either = known.saturating_add(set);
-    begin_path(html, "state");
-    put_x(html, "M0 2H", known, exchanges);
-    html.put_mark("V14H0z");
-    end_path(html);
-    begin_path(html, "half");
-    put_x(html, "M", known, exchanges);
-    put_x(html, " 8H", either, exchanges);
-    put_x(html, "V14H", known, exchanges);
-    html.put_mark("z");
-    end_path(html);
-    begin_path(html, "row");
-    html.put_mark("M0 15.5H1000");
-    end_path(html);
+    let known_x = x_of(known, exchanges);
+    let either_x = x_of(known.saturating_add(set), exchanges);
+    html.put_filled(
+        "<path class=\"state\" d=\"M0 2H{2}V14H0z\"/><path class=\"half\" d=\"M{2} 8H{2}V14H{2}z\"/>\
+        <path class=\"row\" d=\"M0 15.5H1000\"/></svg></td>",
+        &[known_x, known_x, either_x, known_x],
+    );
 }
 
-/// Puts marks, and where a part of a whole stands in a chart that is 1,000 wide, to the nearest hundredth.
-fn put_x(html: &mut Markup, marks: &'static str, part: u32, whole: u32) {
+/// Where a part of a whole stands in a chart that is 1,000 wide, to the nearest hundredth.
+fn x_of(part: u32, whole: u32) -> u64 {
     let whole = u64::from(whole);
-    let hundredths = u64::from(part)
+    u64::from(part)
         .saturating_mul(100_000)
         .saturating_add(whole / 2)
         .checked_div(whole)
-        .unwrap_or(0);
-    html.put_mark(marks);
-    html.put_fixed(hundredths, 2);
-}
-
-/// Puts a number of the exchanges as a percentage, rounded down to a tenth.
-fn put_share(html: &mut Markup, strength: &Strength<'_>, times: u32) {
-    html.put_fixed(strength.tenths(times), 1);
-    html.put_mark(" %");
+        .unwrap_or(0)
 }
 
 /// Puts what a deck in LOCAL may have done to the presets, where local was never known.
@@ -105,8 +91,8 @@ fn put_ignored(html: &mut Markup, strength: &Strength<'_>) -> Done {
     strength.put_ignored(&mut text);
     html.put_mark("<p>");
     if let [first, others @ ..] = text.whole()? {
-        html.put_foreign(&[first.to_ascii_uppercase()]);
-        html.put_foreign(others);
+        let capital = [first.to_ascii_uppercase()];
+        html.put_woven("{tt}", &[], &[&capital, others]);
     }
     html.put_mark(".</p>\n");
     Ok(())

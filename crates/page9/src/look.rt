@@ -1,11 +1,12 @@
 //! What to look at: what the deck did after each transport command that it acknowledged.
 
-use crate::html::{begin_line, end_line, put_counted, put_note, put_rest, put_seconds};
-use crate::table::{put_number_cell, put_table_head};
+use crate::html::{begin_line, end_line, put_counted, put_note, put_rest};
+use crate::table::put_table_head;
 use deck9::Profile;
 use picture9::{Done, Markup};
+use seen9::SeenExchange;
 use std::alloc::{AllocError, Global};
-use view9::{Called, Motion, MotionLine, Outcome, SeenExchange};
+use view9::{Called, Motion, MotionLine, Outcome};
 
 /// How many lines are listed of commands, and how many that are worth looking at. The others are counted.
 const MOST_LISTED: usize = 300;
@@ -96,17 +97,13 @@ impl<'a> Look<'a> {
             html.put_mark("<p>Nothing stands out.</p>\n");
             return;
         }
-        html.put_mark("<p>Worth looking at: ");
-        html.put_thousands(self.worth.count);
-        html.put_mark(".</p>\n");
+        html.put_filled("<p>Worth looking at: {c}.</p>\n", &[self.worth.count]);
         let others = self.worth.count.saturating_sub(IN_SIGHT as u64);
         self.worth.put(html, 0, IN_SIGHT);
         if others == 0 {
             return;
         }
-        html.put_mark("<details><summary>");
-        html.put_thousands(others);
-        html.put_mark(" more</summary>\n");
+        html.put_filled("<details><summary>{c} more</summary>\n", &[others]);
         self.worth.put(html, IN_SIGHT, MOST_LISTED);
         html.put_mark("</details>\n");
     }
@@ -172,17 +169,15 @@ impl Listed {
 fn put_outcome(html: &mut Markup, called: Called<'_>, outcome: &Outcome) {
     html.put_mark("<tr><th scope=\"row\">");
     html.put_with(|name| called.put(name));
-    html.put_mark("</th>");
-    put_number_cell(html, Some(u64::from(outcome.commands)));
-    put_number_cell(html, Some(u64::from(outcome.shown)));
-    put_number_cell(html, Some(u64::from(outcome.never)));
-    html.put_mark("<td>");
+    html.put_filled(
+        "</th><td>{c}</td><td>{c}</td><td>{c}</td><td>",
+        &[outcome.commands, outcome.shown, outcome.never].map(u64::from),
+    );
     match outcome.slowest_us {
-        Some(us) => put_seconds(html, us),
-        None => html.put_mark("&ndash;"),
+        Some(us) => html.put_filled(
+            "{6}</td><td>{c}</td></tr>\n",
+            &[us, u64::from(outcome.slowest_at)],
+        ),
+        None => html.put_mark("&ndash;</td><td>&ndash;</td></tr>\n"),
     }
-    html.put_mark("</td>");
-    let is_shown = outcome.slowest_us.is_some();
-    put_number_cell(html, is_shown.then_some(u64::from(outcome.slowest_at)));
-    html.put_mark("</tr>\n");
 }

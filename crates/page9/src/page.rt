@@ -12,10 +12,10 @@ use capture9::{CaptureError, GREATEST_LIMIT, Records};
 use deck9::Profile;
 use info9::{Sign, Signs};
 use picture9::{Done, Markup};
-use report9::{Beginning, Extent, JudgeError, Scope, Stretch, write_all};
+use report9::{Beginning, JudgeError, Stretch, WhyNo, write_all};
+use seen9::{Ending, ExplainedView, MoveSearch, SeenBreak, SeenExchange, View, ViewOf};
 use std::alloc::Global;
 use std::io::{Read, Write};
-use view9::{Ending, ViewOf, show_explained};
 
 /// What a page is made of, beside the judging.
 #[derive(Clone, Copy)]
@@ -34,17 +34,6 @@ pub struct PageOf<'a> {
     pub stretch: Stretch,
 }
 
-/// A capture, to be read three times, each time whole.
-#[derive(Drop)]
-pub struct Readings<R: Read + Drop> {
-    /// For the time of its first record.
-    pub first: R,
-    /// For the judging.
-    pub judged: R,
-    /// For the records around its breaks, and for what it says of itself.
-    pub drawn: R,
-}
-
 /// What the last reading of a capture finds.
 #[derive(Clone, Copy)]
 struct Found {
@@ -55,36 +44,61 @@ struct Found {
     last_us: Option<u64>,
 }
 
-/// Writes the page of a capture: how its judging ends. Each reader gives the text of the page. It is judged over all parts, of a deck
-/// that is taken for this.
-///
-/// Nothing is written before the judging ended, and nothing where there is an error that is not `Write`. Errors are those of the
-/// judging.
-pub fn write_page<R: Read + Drop, W: Write>(
-    alloc: Global,
-    readings: Readings<R>,
-    writer: &mut W,
-    profile: &Profile,
-    page: &PageOf<'_>,
-) -> Result<Ending, JudgeError> {
-    let Readings {
-        first,
-        judged,
-        drawn,
-    } = readings;
-    let window = window_of(first_time(alloc, first)?, page.stretch);
-    let of = ViewOf {
-        scope: Scope {
-            extent: Extent::WholeCapture,
-            beginning: page.beginning,
-        },
-        stretch: page.stretch,
-        profile,
-    };
-    let mut following = Following::new(alloc, window, of);
-    let ending = show_explained(alloc, judged, &mut following, of)?;
-    write_followed(alloc, drawn, writer, page, &mut following)?;
-    Ok(ending)
+/// The page of a session, as a view that is also told why records break rules: what is followed of the judging.
+#[derive(Drop)]
+pub struct Page<'a, S: MoveSearch> {
+    following: Following<'a, S>,
+}
+
+impl<'a, S: MoveSearch> Page<'a, S> {
+    /// The page of a capture before it is judged, of which the reader gives the first record. The capture is judged over all parts. An
+    /// error is what is wrong with that record.
+    pub fn new<R: Read + Drop>(
+        alloc: Global,
+        reader: R,
+        of: ViewOf<'a>,
+        search: &'a S,
+    ) -> Result<Page<'a, S>, JudgeError> {
+        let window = window_of(first_time(alloc, reader)?, of.stretch);
+        let following = Following::new(alloc, window, of, search);
+        Ok(Page { following })
+    }
+
+    /// Writes the page of the capture that was judged. The reader gives all of it once more. Nothing is written where there is an error
+    /// that is not `Write`. Errors are those of the reading.
+    pub fn write<R: Read + Drop, W: Write>(
+        &mut self,
+        alloc: Global,
+        reader: R,
+        writer: &mut W,
+        page: &PageOf<'_>,
+    ) -> Result<(), JudgeError> {
+        write_followed(alloc, reader, writer, page, &mut self.following)
+    }
+}
+
+impl<S: MoveSearch> ExplainedView for Page<'_, S> {
+    fn why(&mut self, why: WhyNo, is_shown: bool) -> Result<(), JudgeError> {
+        self.following.why(why, is_shown)
+    }
+}
+
+impl<S: MoveSearch> View for Page<'_, S> {
+    fn exchange(&mut self, seen: &SeenExchange<'_>) -> Result<(), JudgeError> {
+        self.following.exchange(seen)
+    }
+
+    fn late(&mut self, late: &SeenBreak) -> Result<(), JudgeError> {
+        self.following.late(late)
+    }
+
+    fn broken(&mut self, broken: &SeenBreak) -> Result<(), JudgeError> {
+        self.following.broken(broken)
+    }
+
+    fn end(&mut self, ending: &Ending) -> Result<(), JudgeError> {
+        self.following.end(ending)
+    }
 }
 
 /// The time that is shown of a capture whose first record came then, where it has one.
@@ -103,11 +117,11 @@ fn first_time<R: Read + Drop>(alloc: Global, reader: R) -> Result<Option<u64>, C
 }
 
 /// Reads the records a second time, for the pictures of breaks and for what the capture says of itself.
-fn read_again<R: Read + Drop>(
+fn read_again<R: Read + Drop, S: MoveSearch>(
     alloc: Global,
     reader: R,
     beginning: Beginning,
-    following: &mut Following<'_>,
+    following: &mut Following<'_, S>,
 ) -> Result<Found, JudgeError> {
     let mut records = Records::new(alloc, reader, GREATEST_LIMIT);
     let mut signs = Signs::new(following.profile.rate, beginning);
@@ -141,12 +155,12 @@ impl Found {
 }
 
 /// Writes the page of what was followed of a capture, in one piece.
-fn write_followed<R: Read + Drop, W: Write>(
+fn write_followed<R: Read + Drop, W: Write, S: MoveSearch>(
     alloc: Global,
     reader: R,
     writer: &mut W,
     page: &PageOf<'_>,
-    following: &mut Following<'_>,
+    following: &mut Following<'_, S>,
 ) -> Result<(), JudgeError> {
     let found = read_again(alloc, reader, page.beginning, following)?;
     following.end_capture(found.last_us.unwrap_or(0))?;
@@ -156,10 +170,10 @@ fn write_followed<R: Read + Drop, W: Write>(
 }
 
 /// Puts the page.
-fn put_page(
+fn put_page<S: MoveSearch>(
     html: &mut Markup,
     page: &PageOf<'_>,
-    following: &mut Following<'_>,
+    following: &mut Following<'_, S>,
     found: &Found,
 ) -> Done {
     let profile = following.profile;

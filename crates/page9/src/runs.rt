@@ -1,7 +1,7 @@
 //! Stretches of time, as many as can be told apart in the picture of a session that grows.
 
-use picture9::Done;
-use std::alloc::{AllocError, Global};
+use crate::growing::Growing;
+use std::alloc::Global;
 
 /// How many runs may be kept before those that lie close by are joined.
 const MANY: usize = 10_000;
@@ -20,22 +20,25 @@ pub(crate) struct Run {
 /// Runs in the order of time.
 #[derive(Drop)]
 pub(crate) struct Runs {
-    alloc: Global,
-    runs: Vec<Run>,
+    runs: Growing<Run>,
 }
 
 impl Runs {
     /// None yet.
     pub(crate) fn new(alloc: Global) -> Runs {
         Runs {
-            alloc,
-            runs: Vec::new(alloc),
+            runs: Growing::new(alloc),
         }
     }
 
     /// Whether there is none.
     pub(crate) fn is_empty(&self) -> bool {
         self.runs.is_empty()
+    }
+
+    /// Whether memory was refused for one.
+    pub(crate) fn is_short(&self) -> bool {
+        self.runs.is_short()
     }
 
     /// The last one.
@@ -50,50 +53,34 @@ impl Runs {
 
     /// Takes a stretch that comes after all of them. The session lasts to its end at least, so that it joins the one before where it
     /// would be drawn as one with it however much longer the session becomes.
-    pub(crate) fn take(&mut self, from_us: u64, to_us: u64) -> Done {
+    pub(crate) fn take(&mut self, from_us: u64, to_us: u64) {
+        if self.runs.len() >= MANY {
+            self.join_all(to_us);
+        }
         let run = Run {
             from_us,
             last_from_us: from_us,
             to_us,
         };
-        if self.runs.len() >= MANY {
-            self.join_all(to_us)?;
-        }
-        push_or_join(&mut self.runs, run, to_us)
+        self.push_or_join(run, to_us);
     }
 
     /// Joins the runs that are drawn as one in a session that lasts so long.
-    fn join_all(&mut self, lasts_us: u64) -> Done {
-        let joined = joined(self.alloc, self.runs.as_slice(), lasts_us)?;
-        self.runs = joined;
-        Ok(())
-    }
-}
-
-/// The runs, with those joined that are drawn as one in a session that lasts so long.
-fn joined(alloc: Global, runs: &[Run], lasts_us: u64) -> Result<Vec<Run>, AllocError> {
-    let mut joined = Vec::new(alloc);
-    push_all(&mut joined, runs, lasts_us)?;
-    Ok(joined)
-}
-
-/// Pushes the runs, with those joined that are drawn as one.
-fn push_all(joined: &mut Vec<Run>, runs: &[Run], lasts_us: u64) -> Done {
-    for run in runs {
-        push_or_join(joined, *run, lasts_us)?;
-    }
-    Ok(())
-}
-
-/// Pushes a run, or joins it with the one before where less than a quarter of a thousandth of the session lies between.
-fn push_or_join(runs: &mut Vec<Run>, run: Run, lasts_us: u64) -> Done {
-    if let Some(last) = runs.last_mut() {
-        if run.from_us.saturating_sub(last.to_us) < lasts_us / 4_000 {
-            last.last_from_us = run.last_from_us;
-            last.to_us = last.to_us.max(run.to_us);
-            return Ok(());
+    fn join_all(&mut self, lasts_us: u64) {
+        for run in self.runs.take_all().iter() {
+            self.push_or_join(*run, lasts_us);
         }
     }
-    runs.push(run)?;
-    Ok(())
+
+    /// Pushes a run, or joins it with the one before where less than a quarter of a thousandth of the session lies between.
+    fn push_or_join(&mut self, run: Run, lasts_us: u64) {
+        if let Some(last) = self.runs.last_mut() {
+            if run.from_us.saturating_sub(last.to_us) < lasts_us / 4_000 {
+                last.last_from_us = run.last_from_us;
+                last.to_us = last.to_us.max(run.to_us);
+                return;
+            }
+        }
+        self.runs.push(run);
+    }
 }

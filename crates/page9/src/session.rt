@@ -3,22 +3,24 @@
 
 use crate::axis::Axis;
 use crate::bins::{Bins, LateDot};
+use crate::break_lanes::put_marks;
 use crate::breaks::ReasonCount;
+use crate::breaks_over_time::BreaksOverTime;
 use crate::charts::{put_delay_lane, put_traffic};
+use crate::field_lane::{is_audio, lane_name, put_lane};
+use crate::field_over_time::FieldOverTime;
+use crate::growing::Growing;
 use crate::html::{begin_chart, begin_path, end_path, put_note};
-use crate::lane::Lane;
-use crate::lane_rows::{is_audio, lane_name, put_lane};
-use crate::mark_rows::put_marks;
-use crate::marks::Marks;
-use crate::mode_rows::put_modes;
-use crate::modes::ModeOverTime;
+use crate::mode_lane::put_modes;
+use crate::mode_over_time::ModeOverTime;
 use crate::span::{Span, Window};
 use crate::touches::Touches;
 use deck9::{Hands, Known, Mode, Profile};
 use picture9::{Done, Markup};
-use std::alloc::Global;
+use seen9::{MoveSearch, SeenExchange};
+use std::alloc::{AllocError, Global};
 use tc25::Rate;
-use view9::{Field, SeenExchange, Value};
+use view9::{Field, Value};
 
 /// For how long a shown mode is taken to be shown, in microseconds, where no other status comes.
 const MODE_HELD_US: u64 = 1_000_000;
@@ -30,11 +32,11 @@ pub(crate) struct Session {
     hands: Hands,
     rate: Rate,
     bins: Bins,
-    pub(crate) marks: Marks,
+    pub(crate) marks: BreaksOverTime,
     shown: ModeOverTime,
     commanded: ModeOverTime,
-    /// The lanes of the other fields, from the first exchange on.
-    lanes: Vec<Lane>,
+    /// The lanes of the other fields, from the top.
+    lanes: Growing<FieldOverTime>,
     /// Whether the shown mode was ever known.
     is_mode_known: bool,
 }
@@ -47,58 +49,67 @@ impl Session {
             hands: profile.hands,
             rate: profile.rate,
             bins: Bins::new(alloc, window),
-            marks: Marks::new(alloc, window),
+            marks: BreaksOverTime::new(alloc, window),
             shown: ModeOverTime::new(alloc, window, MODE_HELD_US),
             commanded: ModeOverTime::new(alloc, window, u64::MAX),
-            lanes: Vec::new(alloc),
+            lanes: lanes_of(alloc, window, profile.hands),
             is_mode_known: false,
         }
     }
 
     /// Takes an exchange.
-    pub(crate) fn exchange(&mut self, seen: &SeenExchange<'_>) -> Done {
+    pub(crate) fn exchange(&mut self, seen: &SeenExchange<'_>) {
         if seen.is_shown {
-            self.bins.exchange(seen)?;
+            self.bins.exchange(seen);
         }
         let now_us = seen.end_us;
         if let Known::Is(mode) = seen.after.shown {
             self.is_mode_known = true;
-            self.shown.hold(mode, now_us)?;
+            self.shown.hold(mode, now_us);
         }
-        self.commanded.follow(known_mode(&seen.after.goal), now_us)?;
-        if self.lanes.is_empty() {
-            push_lanes(&mut self.lanes, self.window, self.hands)?;
-        }
+        self.commanded.follow(known_mode(&seen.after.goal), now_us);
         for lane in self.lanes.as_mut_slice() {
-            lane.follow(lane.field.value_in(&seen.after), now_us)?;
+            lane.follow(lane.field.value_in(&seen.after), now_us);
         }
-        Ok(())
     }
 
     /// Takes a late reply.
-    pub(crate) fn late(&mut self, late: LateDot) -> Done {
-        self.bins.late(late)
+    pub(crate) fn late(&mut self, late: LateDot) {
+        self.bins.late(late);
     }
 
     /// From this time on nothing is known of the deck: its part ended, or the capture did.
-    pub(crate) fn end_part(&mut self, now_us: u64) -> Done {
-        self.shown.end(now_us)?;
-        self.commanded.end(now_us)?;
+    pub(crate) fn end_part(&mut self, now_us: u64) {
+        self.shown.end(now_us);
+        self.commanded.end(now_us);
         for lane in self.lanes.as_mut_slice() {
-            lane.follow(Value::Unknown, now_us)?;
+            lane.follow(Value::Unknown, now_us);
         }
-        Ok(())
+    }
+
+    /// Whether memory was refused for something that is drawn.
+    fn is_short(&self) -> bool {
+        let of_modes = self.shown.is_short() || self.commanded.is_short();
+        let of_lanes = self.lanes.as_slice().iter().any(|lane| lane.is_short());
+        self.bins.is_short()
+            || self.marks.is_short()
+            || of_modes
+            || of_lanes
+            || self.lanes.is_short()
     }
 
     /// Puts the section, with a row for each of these reasons of breaks, and one for touches of the panel. There is no time where the
-    /// capture has no record.
-    pub(crate) fn put(
+    /// capture has no record. An error comes where memory was refused for something of it.
+    pub(crate) fn put<S: MoveSearch>(
         &self,
         html: &mut Markup,
         span: Option<Span>,
         reasons: &[ReasonCount],
-        touches: &Touches<'_>,
+        touches: &Touches<'_, S>,
     ) -> Done {
+        if self.is_short() {
+            return Err(AllocError);
+        }
         html.put_mark("<section id=\"session\"><h2>The whole session</h2>\n");
         match span {
             Some(span) => self.put_figure(html, span, reasons, touches)?,
@@ -109,21 +120,21 @@ impl Session {
     }
 
     /// Puts the picture of a session that lasts so long.
-    fn put_figure(
+    fn put_figure<S: MoveSearch>(
         &self,
         html: &mut Markup,
         span: Span,
         reasons: &[ReasonCount],
-        touches: &Touches<'_>,
+        touches: &Touches<'_, S>,
     ) -> Done {
         let axis = Axis::of(span);
-        html.put_mark("<p class=\"note\">Time runs to the right, ");
-        html.put_mark(axis.clock.name());
-        html.put_mark(
+        html.put_marks(&[
+            "<p class=\"note\">Time runs to the right, ",
+            axis.clock.name(),
             " on the capture&rsquo;s clock. <b>Blank means not known.</b></p>\n\
             <figure><figcaption class=\"hidden\">Breaks, traffic, reply delays and what was known of the deck, over time. \
             The breaks are listed below, and the delays and what was known have tables.</figcaption>\n",
-        );
+        ]);
         put_ground(html, span, axis, self.marks.hairlines_us());
         html.put_mark("<div class=\"lanes\">\n");
         put_marks(html, span, &self.marks, reasons);
@@ -145,7 +156,10 @@ impl Session {
 
     /// Puts the lanes of exchanges.
     fn put_lanes(&self, html: &mut Markup, span: Span) -> Done {
-        let bins = self.bins.drawn(span.lasts_us())?;
+        let bins = self.bins.drawn(span.lasts_us());
+        if bins.bins.is_short() {
+            return Err(AllocError);
+        }
         put_traffic(html, span, &bins)?;
         put_delay_lane(html, span, self.window, &bins)?;
         put_modes(html, span, &self.shown, &self.commanded)?;
@@ -187,17 +201,17 @@ impl Session {
             if lane.is_drawn() || is_audio(lane.field) {
                 continue;
             }
-            html.put_mark(if is_begun { ", " } else { "<p>Never known: " });
-            html.put_mark(lane_name(lane.field));
+            let before = if is_begun { ", " } else { "<p>Never known: " };
+            html.put_marks(&[before, lane_name(lane.field)]);
             is_begun = true;
         }
         html.put_mark(if is_begun { "</p>\n" } else { "" });
     }
 }
 
-/// Pushes a lane for each field that is not a mode, from the top: for the panel only where it may be touched.
-fn push_lanes(lanes: &mut Vec<Lane>, window: Window, hands: Hands) -> Done {
-    let alloc = *lanes.allocator();
+/// A lane for each field that is not a mode, from the top: for the panel only where it may be touched.
+fn lanes_of(alloc: Global, window: Window, hands: Hands) -> Growing<FieldOverTime> {
+    let mut lanes = Growing::new(alloc);
     for field in [
         Field::Local,
         Field::Panel,
@@ -207,10 +221,10 @@ fn push_lanes(lanes: &mut Vec<Lane>, window: Window, hands: Hands) -> Done {
         Field::AudioOut,
     ] {
         if field != Field::Panel || hands == Hands::Allowed {
-            lanes.push(Lane::new(alloc, field, window))?;
+            lanes.push(FieldOverTime::new(alloc, field, window));
         }
     }
-    Ok(())
+    lanes
 }
 
 /// The mode that is known, where one is.
@@ -224,22 +238,23 @@ fn known_mode(known: &Known<Mode>) -> Option<Mode> {
 /// Puts the head of a lane up to its label's words. Where a narrow page has no room for a label above the chart, it stands in the
 /// scale.
 pub(crate) fn begin_lane(html: &mut Markup, look: &'static str) {
-    html.put_mark("<div class=\"lane");
-    html.put_mark(look);
-    html.put_mark("\"><div class=\"label\">");
+    html.put_marks(&["<div class=\"lane", look, "\"><div class=\"label\">"]);
 }
 
 /// Puts the head of a chart so many pixels tall, up to its title's words.
 pub(crate) fn begin_lane_chart(html: &mut Markup, tall: u64) {
-    html.put_whole("</div>\n<div class=\"chart\" style=\"height:", tall);
-    html.put_mark("px\">");
+    html.put_filled(
+        "</div>\n<div class=\"chart\" style=\"height:{n}px\">",
+        &[tall],
+    );
     begin_chart(html, tall);
 }
 
 /// Puts what stands behind each lane: dotted lines at the ticks, and a line at each break where there are few.
 fn put_ground(html: &mut Markup, span: Span, axis: Axis, hairlines_us: &[u64]) {
-    html.put_mark("<svg class=\"ground\" aria-hidden=\"true\"><defs><g id=\"g\">");
-    begin_path(html, "ticks");
+    html.put_mark(
+        "<svg class=\"ground\" aria-hidden=\"true\"><defs><g id=\"g\"><path class=\"ticks\" d=\"",
+    );
     for tick in 0..axis.ticks() {
         let since_us = axis.tick_us(tick).saturating_sub(span.from_us);
         put_down(html, span, since_us);
@@ -263,9 +278,7 @@ fn put_hairlines(html: &mut Markup, span: Span, hairlines_us: &[u64]) {
 
 /// Puts the steps of a line from the top of a chart to its foot.
 fn put_down(html: &mut Markup, span: Span, since_us: u64) {
-    html.put_mark("M");
-    span.put_x(html, since_us);
-    html.put_mark(" 0V130");
+    html.put_filled("M{2} 0V130", &[span.place(since_us)]);
 }
 
 /// Puts the axis of time.
@@ -274,9 +287,8 @@ fn put_axis(html: &mut Markup, span: Span, axis: Axis) {
     html.put_mark("</div>\n<div class=\"chart axis\">\n");
     for tick in 0..axis.ticks() {
         let us = axis.tick_us(tick);
-        html.put_mark("<span style=\"left:");
-        span.put_percent(html, us.saturating_sub(span.from_us));
-        html.put_mark("\">");
+        let place = span.place(us.saturating_sub(span.from_us));
+        html.put_filled("<span style=\"left:{3}%\">", &[place]);
         axis.put_tick(html, us);
         html.put_mark("</span>\n");
     }
@@ -285,11 +297,13 @@ fn put_axis(html: &mut Markup, span: Span, axis: Axis) {
 
 /// Puts what a bar means.
 fn put_sample(html: &mut Markup, (look, path): (&'static str, &'static str), words: &'static str) {
-    html.put_mark("<li><svg width=\"26\" height=\"14\" aria-hidden=\"true\">");
-    begin_path(html, look);
-    html.put_mark(path);
-    end_path(html);
-    html.put_mark("</svg>");
-    html.put_mark(words);
-    html.put_mark("</li>\n");
+    html.put_marks(&[
+        "<li><svg width=\"26\" height=\"14\" aria-hidden=\"true\"><path class=\"",
+        look,
+        "\" d=\"",
+        path,
+        "\"/></svg>",
+        words,
+        "</li>\n",
+    ]);
 }

@@ -1,9 +1,7 @@
 //! The time that the page shows, and where a time stands in it.
 
-use picture9::Markup;
-
 /// The stretch of a capture that the page shows, while the capture is read.
-#[derive(Clone, Copy, Debug, PartialEq, Eq)]
+#[derive(Clone, Copy, PartialEq, Eq)]
 pub(crate) struct Window {
     /// Where it begins, in microseconds on the capture's clock.
     pub(crate) from_us: u64,
@@ -36,7 +34,7 @@ impl Window {
 }
 
 /// From when to when the page shows the capture, in microseconds on the capture's clock.
-#[derive(Clone, Copy, Debug, PartialEq, Eq)]
+#[derive(Clone, Copy, PartialEq, Eq)]
 pub(crate) struct Span {
     /// Where it begins: at the first record, or where the stretch does.
     pub(crate) from_us: u64,
@@ -61,14 +59,9 @@ impl Span {
         u64::try_from(part).unwrap_or(parts).min(parts)
     }
 
-    /// Puts where a time since the beginning stands in a chart that is 1,000 wide.
-    pub(crate) fn put_x(self, html: &mut Markup, since_us: u64) {
-        html.put_fixed(self.part(since_us, 100_000), 2);
-    }
-
-    /// Puts where a time since the beginning stands, in per cent of the width.
-    pub(crate) fn put_percent(self, html: &mut Markup, since_us: u64) {
-        html.put_fixed(self.part(since_us, 100_000), 3);
-        html.put_mark("%");
+    /// Where a time since the beginning stands in the width, in 100,000ths of it. The place `{2}` of a form puts that in a chart that is
+    /// 1,000 wide, and `{3}` in per cent.
+    pub(crate) fn place(self, since_us: u64) -> u64 {
+        self.part(since_us, 100_000)
     }
 }

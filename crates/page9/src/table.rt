@@ -9,31 +9,20 @@ pub(crate) fn put_table_head(html: &mut Markup, names: &'static str, has_picture
     for name in names.split('|') {
         let is_picture = has_picture && place == 1;
         place = place.saturating_add(1);
-        html.put_mark("<th scope=\"col\"");
-        html.put_mark(if is_picture {
-            " class=\"picture\">"
+        let head = if is_picture {
+            "<th scope=\"col\" class=\"picture\">"
         } else {
-            ">"
-        });
-        html.put_mark(name);
-        html.put_mark("</th>\n");
+            "<th scope=\"col\">"
+        };
+        html.put_marks(&[head, name, "</th>\n"]);
     }
     html.put_mark("</tr></thead><tbody>\n");
 }
 
-/// Puts the head of a row: a foreign name.
-pub(crate) fn put_row_head(html: &mut Markup, name: &[u8]) {
-    html.put_mark("<tr><th scope=\"row\">");
-    html.put_foreign(name);
-    html.put_mark("</th>");
-}
-
 /// Puts a cell with a number, or with a dash where there is none to tell.
 pub(crate) fn put_number_cell(html: &mut Markup, number: Option<u64>) {
-    html.put_mark("<td>");
     match number {
-        Some(number) => html.put_thousands(number),
-        None => html.put_mark("&ndash;"),
+        Some(number) => html.put_filled("<td>{c}</td>", &[number]),
+        None => html.put_mark("<td>&ndash;</td>"),
     }
-    html.put_mark("</td>");
 }

@@ -1,26 +1,29 @@
 //! Where somebody must have touched the panel: marks in the picture of the session, and a list.
 
+use crate::break_lanes::put_strokes;
 use crate::html::{begin_line, end_line, put_counted, put_note};
-use crate::mark_rows::put_strokes;
 use crate::session::begin_lane;
 use crate::span::{Span, Window};
 use deck9::{Hands, Profile};
 use picture9::Markup;
 use report9::Stretch;
+use seen9::{MoveSearch, SeenExchange};
 use std::alloc::{AllocError, Global};
-use view9::{SeenExchange, Text, Touch, Touched};
+use view9::{Text, Touch, Touched};
 
 /// How many touches are listed. The others are counted.
 const MOST_LISTED: usize = 300;
 
 /// The touches of a session, where somebody may touch the panel.
 #[derive(Drop)]
-pub(crate) struct Touches<'a> {
+pub(crate) struct Touches<'a, S: MoveSearch> {
     profile: &'a Profile,
     stretch: Stretch,
     window: Window,
+    /// What finds the moves of a hand.
+    search: &'a S,
     /// The exchanges of the part that goes on.
-    part: Touched,
+    part: Touched<'a, S>,
     /// The touches that are shown.
     touches: Vec<Touch>,
     /// Where these stand, since the window's beginning, in microseconds.
@@ -29,19 +32,21 @@ pub(crate) struct Touches<'a> {
     is_unknown: bool,
 }
 
-impl<'a> Touches<'a> {
+impl<'a, S: MoveSearch> Touches<'a, S> {
     /// Of nothing yet.
     pub(crate) fn new(
         alloc: Global,
         window: Window,
         stretch: Stretch,
         profile: &'a Profile,
-    ) -> Touches<'a> {
+        search: &'a S,
+    ) -> Touches<'a, S> {
         Touches {
             profile,
             stretch,
             window,
-            part: Touched::new(alloc),
+            search,
+            part: Touched::new(alloc, search),
             touches: Vec::new(alloc),
             times_us: Vec::new(alloc),
             is_unknown: false,
@@ -65,7 +70,7 @@ impl<'a> Touches<'a> {
     pub(crate) fn end_part(&mut self) -> Result<(), AllocError> {
         let alloc = *self.touches.allocator();
         let touches = self.part.touches(alloc, self.profile)?;
-        self.part = Touched::new(alloc);
+        self.part = Touched::new(alloc, self.search);
         let Some(touches) = touches else {
             self.is_unknown = true;
             return Ok(());
@@ -89,9 +94,10 @@ impl<'a> Touches<'a> {
         let mut words = Markup::new(html.alloc());
         self.put_count(&mut words);
         put_strokes(html, span, ("touches", &words), self.times_us.as_slice());
-        html.put_mark("</div><div class=\"scale\">");
-        html.put_thousands(self.touches.len() as u64);
-        html.put_mark("</div></div>\n");
+        html.put_filled(
+            "</div><div class=\"scale\">{c}</div></div>\n",
+            &[self.touches.len() as u64],
+        );
     }
 
     /// Puts how many there are.

@@ -53,7 +53,7 @@ fn put_short(html: &mut Markup, number: u64, places: u32) {
         }
     }
     let power = 10u64.checked_pow(left).unwrap_or(1).max(1);
-    html.put_thousands(number / power);
+    html.put_filled("{c}", &[number / power]);
     if left > 0 {
         html.put_mark(".");
         put_padded(html, number % power, left);

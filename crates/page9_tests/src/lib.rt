@@ -1,8 +1,5 @@
-//! Tests of what stands beside judging, by its public calls alone: deck sheets (`sheet9`), converters (`convert9`), what a capture
-//! says of itself (`info9`), and the page (`page9`).
-//!
-//! They stand in a crate of their own, so that each of the four is proved once, and its must-fail edits are tried, without waiting
-//! for them. Nothing but tests is here.
+//! Tests of the page (`page9`), over the judging of `show9`, by public calls alone. They stand in a crate of their own, so that `page9` is
+//! proved once, and beside the judging. Nothing but tests is here.
 #![tactic(auto)]
 
 #[cfg(test)]

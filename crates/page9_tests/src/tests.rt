@@ -1,6 +1,2 @@
-//! Small texts and what is made of them, with values by hand.
-mod accepted_sheets;
-mod convert;
-mod info;
+//! Small captures and their pages, with values by hand.
 mod page;
-mod refused_sheets;

@@ -1,1 +1,2 @@
 mod Escapes
+mod Grouped

@@ -20,3 +20,8 @@ pub record IsEscaped (text : List ℕ) : Type 0 where
   pub begins_none : All (λ b. b ≢ 60) text
   pub ends_none : All (λ b. b ≢ 62) text
   pub quotes_none : All (λ b. b ≢ 34) text
+
+-- texts one behind the other
+abbrev pub joined : List (List ℕ) → List ℕ
+joined [] = []
+joined (text ∷ texts) = text ++ joined texts

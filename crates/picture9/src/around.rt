@@ -5,7 +5,7 @@ use crate::layout::Layout;
 use crate::look::Look;
 use crate::markup::{Done, Markup};
 use crate::names::put_block_name;
-use crate::numbers::{milliseconds, rounded, text_width, width_of};
+use crate::numbers::{milliseconds, put_px, text_width, width_of};
 use crate::shapes::{
     BOX_TALL, MARGIN, Standing, begin_text, draw_arrow, draw_box, draw_bracket, draw_line,
     draw_middle, draw_slashes, draw_span, draw_text, end_text,
@@ -17,7 +17,6 @@ use block9::BYTE_TIME_US;
 use capture9::Wire;
 use report9::put_text;
 use std::alloc::AllocError;
-use view9::put_fixed;
 
 /// How tall the picture is.
 pub(crate) const TALL: u64 = 364;
@@ -58,8 +57,10 @@ fn draw_notes(svg: &mut Markup, has_cuts: bool, has_ties: bool) {
         draw_text(svg, (MARGIN, y - 12), Look::Note, words);
     }
     begin_text(svg, (MARGIN, y), Look::Note);
-    svg.put_whole("a box is a byte of ", BYTE_TIME_US);
-    svg.put_mark(" &#181;s, from its stamp on");
+    svg.put_filled(
+        "a box is a byte of {n} &#181;s, from its stamp on",
+        &[BYTE_TIME_US],
+    );
     if has_cuts {
         svg.put_mark("; a silence that is cut has its length beside the cut");
     }
@@ -111,7 +112,7 @@ fn draw_cut(
     draw_slashes(svg, about, top_of(Wire::Controller) + BOX_TALL);
     draw_slashes(svg, about, top_of(Wire::Deck) + BOX_TALL);
     let mut gone = Vec::new(svg.alloc());
-    put_fixed(&mut gone, rounded(spot.since(before), 100), 1)?;
+    put_px(&mut gone, spot.since(before))?;
     put_text(&mut gone, " ms")?;
     let middle = rows.place(about, gone.len()).middle;
     draw_middle(svg, (middle, text_y), Look::Note, gone.as_slice());
@@ -131,16 +132,11 @@ fn draw_measure(svg: &mut Markup, layout: &Layout) {
         draw_slashes(svg, from.saturating_add(width_of(cut_us)), 178);
     }
     begin_text(svg, (words_left, 172), Look::Passed);
-    svg.put_thousands(breaking.since(&before));
-    svg.put_mark(" &#181;s passed");
-    end_text(svg);
+    svg.put_filled("{c} &#181;s passed</text>\n", &[breaking.since(&before)]);
     let to = from.saturating_add(width_of(limit_us));
     draw_span(svg, from, to, 202, Look::LimitLine);
     begin_text(svg, (words_left, 196), Look::Name);
-    svg.put_mark("limit ");
-    svg.put_thousands(limit_us);
-    svg.put_mark(" &#181;s");
-    end_text(svg);
+    svg.put_filled("limit {c} &#181;s</text>\n", &[limit_us]);
 }
 
 /// Draws the boxes of the records, the one that breaks as the last, with an arrow.

@@ -254,13 +254,10 @@ fn put_page_head(svg: &mut Markup, wide: u64, about: &Break) -> Done {
     let tall = TALL - HEAD;
     let mut line = Vec::new(svg.alloc());
     put_no_line(&mut line, about.asked.at, about.reason)?;
-    svg.put_whole("<svg role=\"img\" width=\"", pixels);
-    svg.put_whole("\" height=\"", tall);
-    svg.put_whole("\" viewBox=\"0 ", HEAD);
-    svg.put_whole(" ", pixels);
-    svg.put_whole(" ", tall);
-    svg.put_mark("\"><title>");
-    svg.put_foreign(line.as_slice().strip_suffix(b"\n").unwrap_or(&[]));
-    svg.put_mark("</title>\n");
+    svg.put_woven(
+        "<svg role=\"img\" width=\"{n}\" height=\"{n}\" viewBox=\"0 {n} {n} {n}\"><title>{t}</title>\n",
+        &[pixels, tall, HEAD, pixels, tall],
+        &[line.as_slice().strip_suffix(b"\n").unwrap_or(&[])],
+    );
     Ok(())
 }

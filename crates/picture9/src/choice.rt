@@ -1,12 +1,8 @@
 //! Which break of a capture is drawn.
 
-use crate::picture::Wanted;
 use block9::Reason;
-use deck9::Profile;
-use report9::{Extent, JudgeError, Stretch, WhyNo};
-use std::alloc::Global;
-use std::io::Read;
-use view9::{Ending, ExplainedView, View, ViewOf, show_explained};
+use report9::{Extent, JudgeError, WhyNo};
+use seen9::{ExplainedView, View};
 
 /// The break that ended a part.
 #[derive(Clone, Copy)]
@@ -16,11 +12,11 @@ pub(crate) struct PartEnd {
     pub(crate) reason: Reason,
 }
 
-/// What is chosen of a capture's breaks.
+/// The break of a capture that is drawn, as a view that is also told why records break rules: the first, or the one at a record.
 #[derive(Drop)]
-pub(crate) struct Choice {
+pub struct Choice {
     /// The record at which the break is asked for; none where the first is.
-    wanted: Option<u32>,
+    pub(crate) wanted: Option<u32>,
     /// Whether there is a break.
     pub(crate) is_broken: bool,
     /// The one that is drawn.
@@ -29,29 +25,6 @@ pub(crate) struct Choice {
     pub(crate) before: Option<PartEnd>,
     /// The record that ends the part in which it is.
     ended_at: Option<u32>,
-}
-
-/// Judges the capture, and chooses the break that is drawn: the first, or the one at a record.
-pub(crate) fn choose<R: Read + Drop>(
-    alloc: Global,
-    reader: R,
-    profile: &Profile,
-    wanted: &Wanted,
-) -> Result<(Choice, Ending), JudgeError> {
-    let mut choice = Choice {
-        wanted: wanted.at,
-        is_broken: false,
-        why: None,
-        before: None,
-        ended_at: None,
-    };
-    let of = ViewOf {
-        scope: wanted.scope,
-        stretch: Stretch::ALL,
-        profile,
-    };
-    let ending = show_explained(alloc, reader, &mut choice, of)?;
-    Ok((choice, ending))
 }
 
 impl View for Choice {}
@@ -78,6 +51,17 @@ impl ExplainedView for Choice {
 }
 
 impl Choice {
+    /// Of no break yet, of which the one at this record is wanted; the first where there is none.
+    pub fn new(wanted: Option<u32>) -> Choice {
+        Choice {
+            wanted,
+            is_broken: false,
+            why: None,
+            before: None,
+            ended_at: None,
+        }
+    }
+
     /// The last record that was judged of the part in which the chosen break is, at this record by this reason. A late reply ends no
     /// part where the whole capture is judged.
     pub(crate) fn judged_to(&self, extent: Extent, at: u32, reason: Reason) -> u32 {

@@ -176,8 +176,10 @@ fn draw_row(svg: &mut Markup, row: &ExchangeRow, columns: &Columns, y: u64) {
     svg.put_with(|text| put_milliseconds(text, row.time_us()));
     end_text(svg);
     begin_text(svg, (MARGIN, numbers_y), Look::Small);
-    svg.put_whole("records ", u64::from(row.first));
-    svg.put_whole(" to ", u64::from(row.last));
+    svg.put_filled(
+        "records {n} to {n}",
+        &[u64::from(row.first), u64::from(row.last)],
+    );
     end_text(svg);
     let (asked, answered) = (row.asked.as_slice(), row.answered.as_slice());
     draw_text(svg, (ASKED_LEFT, names_y), Look::Name, asked);

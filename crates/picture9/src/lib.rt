@@ -1,7 +1,7 @@
 //! Pictures of a capture: the record that breaks a rule, with both wires over time around it, or the replies that contradict one
 //! another, a row for each.
 //!
-//! [`write_picture`] judges a capture, finds the break that is drawn, reads the records around it a second time, and writes an SVG.
+//! A [`Choice`] is shown a judging, and keeps the break that is drawn; [`write_picture`] reads the records around it, and writes an SVG.
 //! [`BreakPictures`] draws the first breaks of a capture for a page, of what somebody else judged and reads a second time.
 //! All places are whole numbers of thousandths of a pixel, so that no float is used.
 #![tactic(auto)]
@@ -12,6 +12,7 @@ mod break_pictures;
 mod choice;
 mod contradiction;
 mod exchange_row;
+mod form;
 mod layout;
 mod look;
 mod markup;
@@ -26,8 +27,9 @@ mod text_rows;
 mod ties;
 
 pub use break_pictures::{BreakPictures, MOST_PICTURES};
+pub use choice::Choice;
 pub use contradiction::put_known_before;
 pub use exchange_row::{answered_of, asked_of, says_of};
 pub use markup::{Done, Markup};
 pub use names::command_name;
-pub use picture::{Drawn, Twice, Wanted, WhyNothing, write_picture};
+pub use picture::{Wanted, write_picture};

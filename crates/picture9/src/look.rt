@@ -29,7 +29,7 @@ pub(crate) enum Look {
 }
 
 /// What gives a picture its colours.
-#[derive(Clone, Copy, Debug, PartialEq, Eq)]
+#[derive(Clone, Copy, PartialEq, Eq)]
 pub(crate) enum Style {
     /// Its own attributes.
     Own,

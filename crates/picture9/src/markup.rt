@@ -1,13 +1,13 @@
 //! The text of an SVG or of a page, written piece by piece: the program's own markup, numbers, and foreign text, which is escaped.
-ghost use Rattle.std.specs.Prelude.{◌≡◌, ◌++◌, ℕ, List, OnOk};
-ghost use Rattle.picture9.specs.Markup.{escape_of, escaped, IsEscaped};
+ghost use Rattle.std.specs.Prelude.{◌≡◌, ◌++◌, ℕ, List, map, OnOk};
+ghost use Rattle.picture9.specs.Markup.{escape_of, escaped, IsEscaped, joined};
 
+use crate::form::put_form;
 use crate::look::Style;
-use crate::numbers::{put_px, put_thousands};
-use report9::{TextBuffer, put_count, put_hex, put_text};
+use report9::{TextBuffer, put_text};
 use std::alloc::{AllocError, Global};
 use std::marker::Model;
-use view9::{Text, put_fixed};
+use view9::Text;
 
 /// The result of what takes memory, which may be refused.
 pub type Done = Result<(), AllocError>;
@@ -32,9 +32,9 @@ impl Model for Markup {
 }
 
 impl Markup {
-    ghost use Rattle.std.specs.Prelude.{◌≡◌, ◌≤◌, ◌++◌, [], ℕ, List, IfOk, IfErr, Some, None, option_map};
-    ghost use Rattle.std.specs.Fmt.{decimal};
-    ghost use Rattle.picture9.specs.Markup.{escaped, IsPut};
+    ghost use Rattle.std.specs.Prelude.{◌≡◌, [], ℕ, List, false, map, IfOk, IfErr, Some, None, option_map};
+    ghost use Rattle.picture9.specs.Form.{filled};
+    ghost use Rattle.picture9.specs.Markup.{escaped, IsPut, joined};
 
     /// An empty piece.
     pub fn new(alloc: Global) -> Markup
@@ -70,6 +70,27 @@ impl Markup {
         ensures { IsPut self.old self.new (Some marks.now) }
     {
         self.is_short |= put_text(&mut self.text, marks).is_err();
+    }
+
+    /// Puts several marks, one behind the other.
+    pub fn put_marks(&mut self, marks: &[&'static str])
+        ensures { IsPut self.old self.new (Some (joined (map (λ m. m.now) marks.now))) }
+    {
+        self.is_short |= put_all(&mut self.text, marks).is_err();
+    }
+
+    /// Puts a form with these numbers in its places: `form` says which places there are.
+    pub fn put_filled(&mut self, form: &'static str, numbers: &[u64])
+        ensures { IsPut self.old self.new (Some (filled false form.now numbers.now [])) }
+    {
+        self.is_short |= put_form(&mut self.text, form.as_bytes(), numbers, &[]).is_err();
+    }
+
+    /// Puts a form with these numbers and foreign texts in its places.
+    pub fn put_woven(&mut self, form: &'static str, numbers: &[u64], texts: &[&[u8]])
+        ensures { IsPut self.old self.new (Some (filled false form.now numbers.now (map (λ t. t.now) texts.now))) }
+    {
+        self.is_short |= put_form(&mut self.text, form.as_bytes(), numbers, texts).is_err();
     }
 
     /// Puts foreign text: `&`, `<`, `>` and `"` are written by their names, since they would be read as marks.
@@ -111,36 +132,6 @@ impl Markup {
         self.put_foreign(text.as_slice());
     }
 
-    /// Puts the program's own markup, and then a place, in pixels.
-    pub(crate) fn put_place(&mut self, marks: &'static str, place: u64) {
-        self.put_mark(marks);
-        self.is_short |= put_px(&mut self.text, place).is_err();
-    }
-
-    /// Puts the program's own markup, and then a whole number in decimal digits.
-    pub fn put_whole(&mut self, marks: &'static str, number: u64)
-        ensures { IsPut self.old self.new (Some (marks.now ++ decimal number)) }
-    {
-        self.is_short |= put_count(&mut self.text, marks, number).is_err();
-    }
-
-    /// Puts a whole number with a comma before each three of its last digits.
-    pub fn put_thousands(&mut self, number: u64) {
-        self.is_short |= put_thousands(&mut self.text, number).is_err();
-    }
-
-    /// Puts a number with a decimal point before the last `places` of its digits.
-    pub fn put_fixed(&mut self, number: u64, places: u32)
-        requires { places ≤ 19 }
-    {
-        self.is_short |= put_fixed(&mut self.text, number, places).is_err();
-    }
-
-    /// Puts a byte in two hexadecimal digits.
-    pub fn put_byte(&mut self, byte: u8) {
-        self.is_short |= put_hex(&mut self.text, u32::from(byte)).is_err();
-    }
-
     /// Puts the text of another piece. Where that is incomplete, so is this one.
     pub fn put_piece(&mut self, piece: &Markup)
         ensures { IsPut self.old self.new piece.now }
@@ -175,8 +166,18 @@ impl Markup {
     }
 }
 
+/// Puts marks, one behind the other.
+fn put_all(text: &mut Vec<u8>, marks: &[&'static str]) -> Done
+    ensures { OnOk result (text.new.items ≡ text.old.items ++ joined (map (λ m. m.now) marks.now)) }
+{
+    for mark in marks {
+        put_text(text, mark)?;
+    }
+    Ok(())
+}
+
 /// Puts foreign text, escaped.
-fn put_escaped(text: &mut Vec<u8>, foreign: &[u8]) -> Done
+pub(crate) fn put_escaped(text: &mut Vec<u8>, foreign: &[u8]) -> Done
     ensures { OnOk result (text.new.items ≡ text.old.items ++ escaped foreign.now) }
 {
     for byte in foreign {

@@ -1,10 +1,10 @@
 //! Numbers as a picture has them.
-ghost use Rattle.std.specs.Prelude.{◌≤◌};
+ghost use Rattle.std.specs.Prelude.{◌≡◌, ◌≤◌, ◌++◌, OnOk};
+ghost use Rattle.picture9.specs.Form.{clock, grouped, hundredths, last_digit, millionths, tenths, thousandths, to_hundreds};
 
 use crate::markup::Done;
 use report9::{TextBuffer, put_count, put_text};
 use std::alloc::{AllocError, Global};
-use view9::put_fixed;
 
 /// A pixel, in the measure of all places.
 pub(crate) const PIXEL: u64 = 1_000;
@@ -14,17 +14,6 @@ pub(crate) const MICROSECOND: u64 = 80;
 
 /// How wide a letter of a text of 12 pixels is.
 const LETTER: u64 = 7_250;
-
-/// Groups of three digits, the first one first.
-const GROUPS: [u64; 7] = [
-    1_000_000_000_000_000_000,
-    1_000_000_000_000_000,
-    1_000_000_000_000,
-    1_000_000_000,
-    1_000_000,
-    1_000,
-    1,
-];
 
 /// How wide a time is drawn.
 pub(crate) fn width_of(us: u64) -> u64 {
@@ -50,13 +39,27 @@ pub(crate) fn rounded(number: u64, by: u64) -> u64
 }
 
 /// Puts a place in pixels, to a tenth.
-pub(crate) fn put_px(text: &mut Vec<u8>, place: u64) -> Done {
-    put_fixed(text, rounded(place, 100), 1)
+pub(crate) fn put_px(text: &mut Vec<u8>, place: u64) -> Done
+    ensures { OnOk result (text.new.items ≡ text.old.items ++ tenths (to_hundreds place)) }
+{
+    put_tenths(text, to_hundreds(place))
+}
+
+/// A number divided by 100 and rounded. A half goes to the even neighbour.
+fn to_hundreds(number: u64) -> u64
+    ensures { result ≡ to_hundreds number }
+{
+    let (whole, rest) = (number / 100, number % 100);
+    if rest > 50 || (rest == 50 && whole % 2 == 1) {
+        whole + 1
+    } else {
+        whole
+    }
 }
 
 /// Puts microseconds as milliseconds.
 pub(crate) fn put_milliseconds(text: &mut Vec<u8>, us: u64) -> Done {
-    put_fixed(text, us, 3)?;
+    put_thousandths(text, us)?;
     put_text(text, " ms")
 }
 
@@ -72,27 +75,88 @@ pub(crate) fn put_long_time(text: &mut Vec<u8>, us: u64) -> Done {
     if us < 1_000_000 {
         return put_milliseconds(text, us);
     }
-    put_fixed(text, rounded(us, 1_000), 3)?;
+    put_thousandths(text, rounded(us, 1_000))?;
     put_text(text, " s")
 }
 
 /// Puts a number with a comma before each three of its last digits.
-pub(crate) fn put_thousands(text: &mut Vec<u8>, number: u64) -> Done {
-    let mut is_begun = false;
-    for group in GROUPS {
-        let above = number.checked_div(group).unwrap_or(0);
-        let digits = above % 1_000;
-        if is_begun {
-            text.put(&[b',', digit(digits / 100), digit(digits / 10), digit(digits)])?;
-        } else if above > 0 || group == 1 {
-            put_count(text, "", digits)?;
-            is_begun = true;
-        }
+pub(crate) fn put_thousands(text: &mut Vec<u8>, number: u64) -> Done
+    ensures { OnOk result (text.new.items ≡ text.old.items ++ grouped 6 number) }
+{
+    put_grouped(text, 6, number)
+}
+
+/// Puts a number with a comma before each three of its last digits, as far as so many commas go.
+#[tactic(auto, using(crate::proofs::Grouped::grouped_whole, crate::proofs::Grouped::grouped_few, crate::proofs::Grouped::grouped_more))]
+fn put_grouped(text: &mut Vec<u8>, commas: u32, number: u64) -> Done
+    ensures { OnOk result (text.new.items ≡ text.old.items ++ grouped commas number) }
+{
+    if commas == 0 || number < 1_000 {
+        return put_count(text, "", number);
     }
-    Ok(())
+    put_grouped(text, commas - 1, number / 1_000)?;
+    text.put(&[b',', digit(number / 100), digit(number / 10), digit(number)])
+}
+
+/// Puts a number with a point before its last digit.
+pub(crate) fn put_tenths(text: &mut Vec<u8>, number: u64) -> Done
+    ensures { OnOk result (text.new.items ≡ text.old.items ++ tenths number) }
+{
+    put_count(text, "", number / 10)?;
+    text.put(&[b'.', digit(number)])
+}
+
+/// Puts a number with a point before its last two digits.
+pub(crate) fn put_hundredths(text: &mut Vec<u8>, number: u64) -> Done
+    ensures { OnOk result (text.new.items ≡ text.old.items ++ hundredths number) }
+{
+    put_count(text, "", number / 100)?;
+    text.put(&[b'.', digit(number / 10), digit(number)])
+}
+
+/// Puts a number with a point before its last three digits.
+pub(crate) fn put_thousandths(text: &mut Vec<u8>, number: u64) -> Done
+    ensures { OnOk result (text.new.items ≡ text.old.items ++ thousandths number) }
+{
+    put_count(text, "", number / 1_000)?;
+    text.put(&[b'.', digit(number / 100), digit(number / 10), digit(number)])
+}
+
+/// Puts a number with a point before its last six digits.
+pub(crate) fn put_millionths(text: &mut Vec<u8>, number: u64) -> Done
+    ensures { OnOk result (text.new.items ≡ text.old.items ++ millionths number) }
+{
+    put_count(text, "", number / 1_000_000)?;
+    let first = [
+        b'.',
+        digit(number / 100_000),
+        digit(number / 10_000),
+        digit(number / 1_000),
+    ];
+    text.put(&first)?;
+    text.put(&[digit(number / 100), digit(number / 10), digit(number)])
+}
+
+/// Puts microseconds as hours, minutes and seconds, cut to the millisecond.
+pub(crate) fn put_clock(text: &mut Vec<u8>, us: u64) -> Done
+    ensures { OnOk result (text.new.items ≡ text.old.items ++ clock us) }
+{
+    let hours = us / 3_600_000_000;
+    put_count(text, if hours < 10 { "0" } else { "" }, hours)?;
+    let (minutes, seconds) = (us / 60_000_000, us / 1_000_000);
+    text.put(&[b':', b'0' + (us / 600_000_000 % 6) as u8, digit(minutes)])?;
+    text.put(&[b':', b'0' + (us / 10_000_000 % 6) as u8, digit(seconds)])?;
+    text.put(&[
+        b'.',
+        digit(us / 100_000),
+        digit(us / 10_000),
+        digit(us / 1_000),
+    ])
 }
 
 /// The last decimal digit of a number.
-fn digit(number: u64) -> u8 {
+pub(crate) fn digit(number: u64) -> u8
+    ensures { result ≡ last_digit number }
+{
     b'0' + (number % 10) as u8
 }

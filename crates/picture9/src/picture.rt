@@ -1,7 +1,7 @@
 //! A picture of a capture, as it is asked for and written.
 
 use crate::around::{TALL, draw_around};
-use crate::choice::{Choice, choose};
+use crate::choice::Choice;
 use crate::contradiction::{Columns, draw_rows, known_line};
 use crate::exchange_row::rows_of;
 use crate::layout::lay_out;
@@ -13,76 +13,44 @@ use crate::shapes::{MARGIN, draw_text};
 use block9::Reason;
 use deck9::Profile;
 use report9::{Extent, JudgeError, Scope, WhyNo, put_no_line, write_all};
+use seen9::WhyNothing;
 use std::alloc::Global;
 use std::io::{Read, Write};
-use view9::Ending;
 
 /// What is asked of a picture.
-#[derive(Clone, Copy, Debug, PartialEq, Eq)]
-pub struct Wanted {
+#[derive(Clone, Copy)]
+pub struct Wanted<'a> {
     /// How far the capture is judged, and from where on.
     pub scope: Scope,
-    /// The number of the record whose break is drawn; none where the first break is.
-    pub at: Option<u32>,
+    /// What the deck is taken for.
+    pub profile: &'a Profile,
     /// How wide the picture may be, in pixels. It is 700 at least, and wider where what breaks the rule would not fit.
     pub width: u32,
 }
 
-/// Why there is nothing to draw.
-#[derive(Clone, Copy, Debug, PartialEq, Eq)]
-pub enum WhyNothing {
-    /// The verdict is a yes.
-    Yes,
-    /// No part breaks.
-    NoPartBreaks,
-    /// There is no break at this record.
-    NoBreakAt(u32),
-}
-
-/// What [`write_picture`] came to.
-#[derive(Clone, Copy, Debug, PartialEq, Eq)]
-pub enum Drawn {
-    /// The picture was written. The judging ended so.
-    Picture(Ending),
-    /// There is nothing to draw, and nothing was written.
-    Nothing(WhyNothing),
-}
-
-/// A capture, to be read twice.
-#[derive(Drop)]
-pub struct Twice<R: Read + Drop> {
-    /// For the judging.
-    pub first: R,
-    /// For the records around the break.
-    pub second: R,
-}
-
 /// Draws the record of a capture that breaks a rule, as an SVG: both wires over time, each byte a box, and what stands before and
-/// after it; and where no run of the deck remains the replies that contradict one another, a row for each. Both readers give
-/// the whole capture. It is judged as the scope says, for a deck of this profile. Where all parts are judged, one break is drawn, the
-/// first or the one at the record that is wanted, and a late reply ends no part.
+/// after it; and where no run of the deck remains the replies that contradict one another, a row for each: none where the picture was
+/// written, or why there is nothing to draw. The reader gives the whole capture, of which this break was chosen, and it was judged as is
+/// wanted, for a deck of this profile. Where all parts are judged, a late reply ends no part.
 ///
-/// Nothing is written before the judging ended, and nothing where there is an error that is not `Write`. Errors are those of the
-/// judging.
+/// Nothing is written where there is an error that is not `Write`. Errors are those of the reading.
 pub fn write_picture<R: Read + Drop, W: Write>(
     alloc: Global,
-    capture: Twice<R>,
+    reader: R,
     writer: &mut W,
-    profile: &Profile,
-    wanted: &Wanted,
-) -> Result<Drawn, JudgeError> {
-    let Twice { first, second } = capture;
-    let (choice, ending) = choose(alloc, first, profile, wanted)?;
-    let Some(svg) = draw(alloc, second, profile, wanted, &choice)? else {
-        return Ok(Drawn::Nothing(why_nothing(&choice, wanted)));
+    choice: &Choice,
+    wanted: &Wanted<'_>,
+) -> Result<Option<WhyNothing>, JudgeError> {
+    let Some(svg) = draw(alloc, reader, wanted, choice)? else {
+        return Ok(Some(why_nothing(choice, wanted)));
     };
     write_all(writer, svg.whole()?)?;
-    Ok(Drawn::Picture(ending))
+    Ok(None)
 }
 
 /// Why there is nothing to draw.
-fn why_nothing(choice: &Choice, wanted: &Wanted) -> WhyNothing {
-    match (choice.is_broken, wanted.scope.extent, wanted.at) {
+fn why_nothing(choice: &Choice, wanted: &Wanted<'_>) -> WhyNothing {
+    match (choice.is_broken, wanted.scope.extent, choice.wanted) {
         (false, Extent::FirstBreak, _) => WhyNothing::Yes,
         (true, _, Some(at)) => WhyNothing::NoBreakAt(at),
         _ => WhyNothing::NoPartBreaks,
@@ -93,15 +61,14 @@ fn why_nothing(choice: &Choice, wanted: &Wanted) -> WhyNothing {
 fn draw<R: Read + Drop>(
     alloc: Global,
     reader: R,
-    profile: &Profile,
-    wanted: &Wanted,
+    wanted: &Wanted<'_>,
     choice: &Choice,
 ) -> Result<Option<Markup>, JudgeError> {
     let Some(why) = &choice.why else {
         return Ok(None);
     };
     let WhyNo::Break { at, reason, .. } = why else {
-        return draw_contradiction(alloc, reader, profile, why);
+        return draw_contradiction(alloc, reader, wanted.profile, why);
     };
     let asked = Asked {
         at: *at,
@@ -183,15 +150,13 @@ fn put_head(
     let mut line = Vec::new(svg.alloc());
     put_no_line(&mut line, at, reason)?;
     let verdict = line.as_slice().strip_suffix(b"\n").unwrap_or(&[]);
-    svg.put_place("<svg xmlns=\"http://www.w3.org/2000/svg\" width=\"", wide);
-    svg.put_whole("\" height=\"", tall);
-    svg.put_place("\" viewBox=\"0 0 ", wide);
-    svg.put_whole(" ", tall);
-    svg.put_mark("\" style=\"max-width:100%;height:auto\"");
-    svg.put_mark(" font-family=\"DejaVu Sans Mono, Menlo, Consolas, monospace\"");
-    svg.put_mark(" font-size=\"12\">\n<title>");
-    svg.put_foreign(verdict);
-    svg.put_mark("</title>\n<rect width=\"100%\" height=\"100%\" fill=\"#ffffff\"/>\n");
+    svg.put_woven(
+        "<svg xmlns=\"http://www.w3.org/2000/svg\" width=\"{p}\" height=\"{n}\" viewBox=\"0 0 {p} {n}\" \
+        style=\"max-width:100%;height:auto\" font-family=\"DejaVu Sans Mono, Menlo, Consolas, monospace\" \
+        font-size=\"12\">\n<title>{t}</title>\n<rect width=\"100%\" height=\"100%\" fill=\"#ffffff\"/>\n",
+        &[wide, tall, wide, tall],
+        &[verdict],
+    );
     draw_text(svg, (MARGIN, 28), Look::Headline, verdict);
     draw_text(svg, (MARGIN, 48), Look::Time, below);
     Ok(())

@@ -3,8 +3,8 @@
 use crate::blocks::{Blocks, Seen};
 use crate::choice::PartEnd;
 use crate::markup::Done;
-use block9::{BYTE_GAP_US, Reason};
-use capture9::{GREATEST_LIMIT, LineByte, Records, Wire};
+use block9::{begins_next_part, may_begin};
+use capture9::{GREATEST_LIMIT, LineByte, Records};
 use report9::{Beginning, JudgeError};
 use std::alloc::{AllocError, Global};
 use std::io::Read;
@@ -133,7 +133,7 @@ impl Asked {
     fn begins_inside(&self, number: u32, record: LineByte, last: Option<LineByte>) -> bool {
         match self.before {
             _ if number == self.at => true,
-            None if number > 1 => may_begin(record, last),
+            None if number > 1 => may_begin(last, record),
             _ => self.begins_part(number, record, last),
         }
     }
@@ -142,34 +142,9 @@ impl Asked {
     fn begins_part(&self, number: u32, record: LineByte, last: Option<LineByte>) -> bool {
         match self.before {
             Some(end) if number < end.at => false,
-            Some(end) if number == end.at => {
-                record.wire == Wire::Controller && ends_before(end.reason)
-            }
+            Some(end) if number == end.at => begins_next_part(end.reason, record),
             None if self.beginning == Beginning::FirstRecord => true,
-            _ => may_begin(record, last),
-        }
-    }
-}
-
-/// Whether a part ends before the record that breaks by this reason, which may then be the first of the next part.
-fn ends_before(reason: Reason) -> bool {
-    matches!(
-        reason,
-        Reason::NoReply | Reason::CommandBeforeReply | Reason::CommandInsideReply | Reason::ByteGap
-    )
-}
-
-/// Whether a record may begin a command: it is the controller's, and comes after one of the deck, or after a pause that is longer than
-/// any inside a block. The first record never may.
-fn may_begin(record: LineByte, last: Option<LineByte>) -> bool {
-    let Some(last) = last else {
-        return false;
-    };
-    match (record.wire, last.wire) {
-        (Wire::Deck, _) => false,
-        (Wire::Controller, Wire::Deck) => true,
-        (Wire::Controller, Wire::Controller) => {
-            record.time_us.saturating_sub(last.time_us) > BYTE_GAP_US
+            _ => may_begin(last, record),
         }
     }
 }

@@ -3,7 +3,7 @@
 
 use crate::look::Look;
 use crate::markup::Markup;
-use crate::numbers::{MICROSECOND, PIXEL, put_milliseconds};
+use crate::numbers::{MICROSECOND, PIXEL};
 use block9::BYTE_TIME_US;
 use capture9::LineByte;
 
@@ -32,32 +32,27 @@ pub(crate) enum Standing {
 
 /// Draws a line.
 pub(crate) fn draw_line(svg: &mut Markup, from: Point, to: Point, look: Look) {
-    svg.put_place("<line x1=\"", from.0);
-    svg.put_whole("\" y1=\"", from.1);
-    svg.put_place("\" x2=\"", to.0);
-    svg.put_whole("\" y2=\"", to.1);
+    svg.put_filled(
+        "<line x1=\"{p}\" y1=\"{n}\" x2=\"{p}\" y2=\"{n}",
+        &[from.0, from.1, to.0, to.1],
+    );
     end_shape(svg, look);
 }
 
 /// Ends the last attribute of a shape, and the shape.
 fn end_shape(svg: &mut Markup, look: Look) {
-    svg.put_mark("\"");
-    svg.put_mark(look.attributes(svg.style()));
-    svg.put_mark("/>\n");
+    svg.put_marks(&["\"", look.attributes(svg.style()), "/>\n"]);
 }
 
 /// Begins a text, whose words come next: the first of them stands here.
 pub(crate) fn begin_text(svg: &mut Markup, at: Point, look: Look) {
-    begin_words(svg, at, "\" text-anchor=\"start\"", look);
+    begin_words(svg, at, "start", look);
 }
 
 /// Begins a text at this anchor.
 fn begin_words(svg: &mut Markup, at: Point, anchor: &'static str, look: Look) {
-    svg.put_place("<text x=\"", at.0);
-    svg.put_whole("\" y=\"", at.1);
-    svg.put_mark(anchor);
-    svg.put_mark(look.attributes(svg.style()));
-    svg.put_mark(">");
+    svg.put_filled("<text x=\"{p}\" y=\"{n}\" text-anchor=\"", &[at.0, at.1]);
+    svg.put_marks(&[anchor, "\"", look.attributes(svg.style()), ">"]);
 }
 
 /// Ends a text.
@@ -68,15 +63,13 @@ pub(crate) fn end_text(svg: &mut Markup) {
 /// Draws a text that begins here.
 pub(crate) fn draw_text(svg: &mut Markup, at: Point, look: Look, words: &[u8]) {
     begin_text(svg, at, look);
-    svg.put_foreign(words);
-    end_text(svg);
+    svg.put_woven("{t}</text>\n", &[], &[words]);
 }
 
 /// Draws a text whose middle is here.
 pub(crate) fn draw_middle(svg: &mut Markup, at: Point, look: Look, words: &[u8]) {
-    begin_words(svg, at, "\" text-anchor=\"middle\"", look);
-    svg.put_foreign(words);
-    end_text(svg);
+    begin_words(svg, at, "middle", look);
+    svg.put_woven("{t}</text>\n", &[], &[words]);
 }
 
 /// Draws the box of a byte, with its digits, and its record and stamp as its title.
@@ -92,26 +85,23 @@ pub(crate) fn draw_box(
         Standing::Breaking => (Look::BreakingBox, Look::BreakingDigits),
         Standing::Pale => (Look::PaleBox, Look::Pale),
     };
-    svg.put_place("<rect x=\"", at.0);
-    svg.put_whole("\" y=\"", at.1);
-    svg.put_place("\" width=\"", BOX_WIDE);
-    svg.put_whole("\" height=\"", BOX_TALL);
-    svg.put_mark("\"");
+    svg.put_filled(
+        "<rect x=\"{p}\" y=\"{n}\" width=\"{p}\" height=\"{n}\"",
+        &[at.0, at.1, BOX_WIDE, BOX_TALL],
+    );
     svg.put_mark(look.attributes(svg.style()));
-    svg.put_whole("><title>record ", u64::from(number));
-    svg.put_mark(", ");
-    svg.put_with(|text| put_milliseconds(text, record.time_us));
-    svg.put_mark("</title></rect>\n");
+    svg.put_filled(
+        "><title>record {n}, {3} ms</title></rect>\n",
+        &[u64::from(number), record.time_us],
+    );
     let middle = (at.0.saturating_add(BOX_WIDE / 2), at.1.saturating_add(16));
-    begin_words(svg, middle, "\" text-anchor=\"middle\"", digits_look);
-    svg.put_byte(record.byte);
-    end_text(svg);
+    begin_words(svg, middle, "middle", digits_look);
+    svg.put_filled("{x}</text>\n", &[u64::from(record.byte)]);
 }
 
 /// Draws an arrow with its tip here, and then as the path says.
 pub(crate) fn draw_arrow(svg: &mut Markup, tip: Point, path: &'static str) {
-    svg.put_place("<path d=\"M ", tip.0);
-    svg.put_whole(" ", tip.1);
+    svg.put_filled("<path d=\"M {p} {n}", &[tip.0, tip.1]);
     svg.put_mark(path);
     end_shape(svg, Look::Arrow);
 }
@@ -123,10 +113,9 @@ pub(crate) fn draw_bracket(
     to: u64,
     (down, back): (&'static str, &'static str),
 ) {
-    svg.put_place("<path d=\"M ", from.0);
-    svg.put_whole(" ", from.1);
+    svg.put_filled("<path d=\"M {p} {n}", &[from.0, from.1]);
     svg.put_mark(down);
-    svg.put_place(" H ", to);
+    svg.put_filled(" H {p}", &[to]);
     svg.put_mark(back);
     end_shape(svg, Look::Bracket);
 }
@@ -141,9 +130,10 @@ pub(crate) fn draw_span(svg: &mut Markup, from: u64, to: u64, y: u64, look: Look
 
 /// Draws two strokes where a line is cut.
 pub(crate) fn draw_slashes(svg: &mut Markup, about: u64, y: u64) {
-    svg.put_place("<rect x=\"", about.saturating_sub(5 * PIXEL));
-    svg.put_whole("\" y=\"", y.saturating_sub(7));
-    svg.put_mark("\" width=\"10\" height=\"14");
+    svg.put_filled(
+        "<rect x=\"{p}\" y=\"{n}\" width=\"10\" height=\"14",
+        &[about.saturating_sub(5 * PIXEL), y.saturating_sub(7)],
+    );
     end_shape(svg, Look::Gap);
     let (above, below) = (y.saturating_sub(6), y.saturating_add(6));
     let left = about.saturating_sub(6 * PIXEL);

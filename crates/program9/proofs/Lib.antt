@@ -1,3 +1,1 @@
-mod Answering
 mod BufferLemmas
-mod WithHands

@@ -1,15 +1,11 @@
 -- How a judging ends whose report goes through a buffer.
-use Rattle.std.specs.Prelude.{◌≡◌, ◌≢◌, ◌⊎◌, ℕ, List, Option, Result, Ok, Err, IfOk, IfSome, option_map}
+use Rattle.std.specs.Prelude.{◌≡◌, ◌≢◌, ◌⊎◌, ⊤, ℕ, List, Option, Result, Ok, Err, IfSome, option_map}
 use Rattle.std.specs.Io.KnownBytes.{Appends, Keeps}
 use Rattle.capture9.specs.declared.error.CaptureError.{CaptureError}
 use Rattle.capture9.specs.declared.error.CaptureKind.TheVariants as kind
 use Rattle.capture9.specs.Fields.{greatest_limit}
 use Rattle.capture9.specs.Rows.{HasHeader, Rows, rows_of, rows_within}
-use Rattle.convert9.specs.declared.fault.ConvertFault.{ConvertFault}
-use Rattle.convert9.specs.declared.log.times.Notice.{Notice}
-use Rattle.convert9.specs.declared.split.SplitFault.{SplitFault}
 use Rattle.deck9.specs.declared.profile.Profile.{Profile}
-use Rattle.picture9.specs.declared.picture.Drawn.{Drawn}
 use Rattle.report9.specs.declared.error.JudgeError.{JudgeError}
 use Rattle.report9.specs.declared.error.JudgeError.TheVariants as error
 use Rattle.report9.specs.declared.run_verdict.RunVerdict.{RunVerdict}
@@ -24,18 +20,15 @@ use Rattle.report9.specs.RunText.{text_of_run}
 use Rattle.judge9.specs.Judging.{Answers}
 use Rattle.judge9.specs.Report.{Told, by_totals, by_verdict}
 use Rattle.judge9.specs.RunVerdict.{IsJudgedRun, verdict_of}
-use Rattle.words9.specs.declared.task.Export.{Export}
 use Rattle.words9.specs.declared.task.Report.{Report}
-use Rattle.words9.specs.declared.task.Report.TheVariants.{Clock, Convert, Info, JsonRun, Made, Page, Parts, Picture, Run, Split, ToBreak, Touches, Try}
-use Rattle.view9.specs.declared.clock.ClockFault.{ClockFault}
-use Rattle.view9.specs.declared.seen.Ending.{Ending}
+use Rattle.words9.specs.declared.task.Made.{Made as AMade}
+use Rattle.words9.specs.declared.task.Report.TheVariants.{Made, Parts, Run, ToBreak}
 use Rattle.program9.specs.declared.ending.Message.{Message}
 use Rattle.program9.specs.declared.ending.Message.TheVariants as message
 use Rattle.program9.specs.declared.ending.Outcome.{Outcome}
 use Rattle.program9.specs.declared.judging.Job.{Job}
-use Rattle.program9.specs.Outcome.{outcome_converted, outcome_drawn, outcome_in_parts, outcome_kept, outcome_made, outcome_of, outcome_of_split, outcome_rewritten, outcome_told}
+use Rattle.program9.specs.Outcome.{outcome_in_parts, outcome_of}
 use Rattle.program9.specs.Output.{IsFirstPart}
-use Rattle.program9.specs.Trying.{IsHint, TellsAnswers}
 
 -- of a judging that answered `judged`, after which the writer was to hold `all`: the result is that answer, and
 -- the writer holds all of it; or the result is a write fault, and the writer holds a first part
@@ -82,6 +75,12 @@ pub record EndsAs {A : Type 0} (Kind : Result A JudgeError → Option (List ℕ)
   pub hands_on : HandsOn judged all result now
   pub is_end : end ≡ outcome result
 
+-- what may be said of what to ask next, or of what to look at besides. What that is is tested
+abbrev pub IsHint : Message → Type 0
+IsHint message.Nothing = ⊤
+IsHint (message.Lines lines) = ⊤
+IsHint _ = ⊥
+
 -- a judging whose end is `plain` was told by this view, and the program ends so: as `plain` says. But below a `why` that is a no and says
 -- nothing, lines may be said of what to ask next. What they say is tested
 abbrev pub IsHinted : View → Outcome → Outcome → Type 0
@@ -89,59 +88,15 @@ IsHinted view.Why plain end =
     (end ≡ plain) ⊎ ((plain ≡ record { status = 1; message = message.Nothing }) × (said : Message) × IsHint said × (end ≡ record { status = 1; message = said }))
 IsHinted _ plain end = end ≡ plain
 
--- a view was made of a judging, and this is its end. What stands in a view is tested, and nothing is said of it here
-abbrev pub EndsMade : Outcome → Type 0
-EndsMade end = (result : Result Ending JudgeError) × (end ≡ outcome_made result)
+-- what a maker promises of what it makes: of this, for this job, of a capture or an export whose text is given where it is known, before a
+-- writer that holds this; how it ends, and what the writer holds then
+abbrev pub Promise : Type 1
+Promise = AMade → Job → Option (List ℕ) → Option (List ℕ) → Outcome → Option (List ℕ) → Type 0
 
--- the same of a run as JSON
-abbrev pub EndsJsonRun : Outcome → Type 0
-EndsJsonRun end = (result : Result Verdict JudgeError) × (end ≡ outcome_of result)
-
--- the same of the times of a text
-abbrev pub EndsRewritten : Outcome → Type 0
-EndsRewritten end = (result : Result Unit ClockFault) × (end ≡ outcome_rewritten result)
-
--- the same of what a capture says of itself
-abbrev pub EndsInfo : Outcome → Type 0
-EndsInfo end = (result : Result Unit JudgeError) × (end ≡ outcome_told result)
-
--- a picture was to be drawn: the capture could not be read to its end, or something was drawn or not
-abbrev pub IsDrawn : Outcome → Type 0
-IsDrawn end = ((drawn : Drawn) × (end ≡ outcome_drawn drawn)) ⊎ (end ≡ record { status = 4; message = message.TextFault })
-
--- the same of a picture; what stands in it is tested
-abbrev pub EndsDrawn : Outcome → Type 0
-EndsDrawn end = (told : Result Outcome JudgeError) × IfOk told IsDrawn × (end ≡ outcome_kept told)
-
--- a page was to be made: the capture could not be read to its end, or the page was written
-abbrev pub IsPaged : Outcome → Type 0
-IsPaged end = ((ending : Ending) × (end ≡ outcome_made (Ok ending))) ⊎ (end ≡ record { status = 4; message = message.TextFault })
-
--- the same of a page; what stands on it is tested
-abbrev pub EndsPaged : Outcome → Type 0
-EndsPaged end = (told : Result Outcome JudgeError) × IfOk told IsPaged × (end ≡ outcome_kept told)
-
--- an export was to become a capture; that what was written can be read, stands where it is written
-abbrev pub EndsConverted : Export → Outcome → Type 0
-EndsConverted export end = (told : Result (Option Notice) ConvertFault) × (end ≡ outcome_converted export told)
-
--- a capture was to be cut into parts: their names were to be written, or it ended early, whatever is said of what it left behind
-abbrev pub EndsSplit : Outcome → Type 0
-EndsSplit end = ((told : Result Unit JudgeError) × (end ≡ outcome_told told)) ⊎ ((fault : SplitFault) × (end.status ≡ (outcome_of_split fault).status))
-
--- a capture was judged and told by this report, and this is the end
-abbrev pub EndsJudged : Report → Job → Option (List ℕ) → Option (List ℕ) → Outcome → Option (List ℕ) → Type 0
-EndsJudged Run job capture old end now = EndsAs (IsJudgedWithRun job capture old) outcome_of end now
-EndsJudged (ToBreak view) job capture old end now = (plain : Outcome) × EndsAs (IsJudged view job capture old) outcome_of plain now × IsHinted view plain end
-EndsJudged (Parts view) job capture old end now =
+-- a capture was judged and told by this report, or this was made of it as its maker promises, and this is the end
+abbrev pub EndsJudged : Promise → Report → Job → Option (List ℕ) → Option (List ℕ) → Outcome → Option (List ℕ) → Type 0
+EndsJudged makes Run job capture old end now = EndsAs (IsJudgedWithRun job capture old) outcome_of end now
+EndsJudged makes (ToBreak view) job capture old end now = (plain : Outcome) × EndsAs (IsJudged view job capture old) outcome_of plain now × IsHinted view plain end
+EndsJudged makes (Parts view) job capture old end now =
     (plain : Outcome) × EndsAs (IsJudgedInParts view job capture old) outcome_in_parts plain now × IsHinted view plain end
-EndsJudged (Made made extent) job capture old end now = EndsMade end
-EndsJudged JsonRun job capture old end now = EndsJsonRun end
-EndsJudged (Clock form) job capture old end now = EndsRewritten end
-EndsJudged Info job capture old end now = EndsInfo end
-EndsJudged (Try extent) job capture old end now = EndsAs (TellsAnswers (record { extent = extent; beginning = job.asked.beginning }) job.profile capture old) outcome_kept end now
-EndsJudged Touches job capture old end now = EndsMade end
-EndsJudged (Picture extent) job capture old end now = EndsDrawn end
-EndsJudged Page job capture old end now = EndsPaged end
-EndsJudged (Convert export) job capture old end now = EndsConverted export end
-EndsJudged Split job capture old end now = EndsSplit end
+EndsJudged makes (Made made) job capture old end now = makes made job capture old end now

@@ -6,7 +6,6 @@ pub mod Opening
 pub mod Outcome
 pub mod Output
 pub mod WholeLines
-pub mod Trying
 pub mod Judging
 pub mod Sheet
 pub mod Status

@@ -18,7 +18,7 @@ use Rattle.program9.specs.declared.ending.Outcome.{Outcome}
 use Rattle.program9.specs.declared.judging.Job.{Job}
 use Rattle.program9.specs.declared.no_header.FoundHeader.{FoundHeader}
 use Rattle.program9.specs.Header.{with_header}
-use Rattle.program9.specs.Judging.{EndsJudged}
+use Rattle.program9.specs.Judging.{EndsJudged, Promise}
 use Rattle.program9.specs.Opening.{no_memory, outcome_unopened}
 use Rattle.program9.specs.Outcome.{told_after}
 use Rattle.program9.specs.Sheet.{EndsOther, FindsDeck}
@@ -70,20 +70,20 @@ EndsBefore streams task end = EndsOther streams.opens_sheet streams.coming_sheet
 -- the judging of the task began, and ended; where the header is at fault, the end tells the file and what stands in the place of the
 -- header: which bytes are shown of it is tested. If a write failed on the way, it failed with some kind of error, and this is the end
 -- then. No contract of a writer says when it fails, and how
-pub record EndsJudging {R S W : Type 0} (streams : Streams R S W) (task : Task) (out : W) (end : Outcome) (now : Option (List ℕ)) : Type 0 where
+pub record EndsJudging {R S W : Type 0} (makes : Promise) (streams : Streams R S W) (task : Task) (out : W) (end : Outcome) (now : Option (List ℕ)) : Type 0 where
   pub reader : R
   pub buffer : Buffered W
   pub job : Job
   pub begins : Begins streams task out reader buffer job
   pub judged : Outcome
-  pub is_judged : EndsJudged job.asked.report job (streams.coming reader) (streams.contents out) judged now
+  pub is_judged : EndsJudged makes job.asked.report job (streams.coming reader) (streams.contents out) judged now
   pub found : FoundHeader
   pub failed : Option ErrorKind
   pub ends : end ≡ told_after failed (with_header task.file found judged)
 
 -- the task was carried out, and this is the end: it ended before its judging, and nothing is written; or its judging ended
-abbrev pub EndsTask : {R S W : Type 0} → Streams R S W → Task → W → Outcome → Option (List ℕ) → Type 0
-EndsTask streams task out end now = (EndsBefore streams task end × Keeps (streams.contents out) now) ⊎ EndsJudging streams task out end now
+abbrev pub EndsTask : {R S W : Type 0} → Promise → Streams R S W → Task → W → Outcome → Option (List ℕ) → Type 0
+EndsTask makes streams task out end now = (EndsBefore streams task end × Keeps (streams.contents out) now) ⊎ EndsJudging makes streams task out end now
 
 -- the end where there is no task: the words are none, or ask for the version, or memory was refused
 abbrev pub EndsWithout : WordsFault → Option (List ℕ) → End → Option (List ℕ) → Type 0
@@ -95,15 +95,15 @@ EndsWithout words.NoMemory old told now = (told ≡ end.Told no_memory) × Keeps
 -- the end of the program on these words: they are no command, or a time in them is none, and nothing is written; or memory was refused before a
 -- task stood, and nothing is written; or they ask for the version, and that is told; or the task that they give was
 -- carried out
-abbrev pub EndsWords : {R S W : Type 0} → Streams R S W → List (List ℕ) → W → End → Option (List ℕ) → Type 0
-EndsWords streams words out (end.Usage text) now = IsNoTask words × ¬ (AsksVersion words) × Keeps (streams.contents out) now
-EndsWords streams words out (end.NoValue text) now = Keeps (streams.contents out) now
-EndsWords streams words out (end.Told outcome) now =
+abbrev pub EndsWords : {R S W : Type 0} → Promise → Streams R S W → List (List ℕ) → W → End → Option (List ℕ) → Type 0
+EndsWords makes streams words out (end.Usage text) now = IsNoTask words × ¬ (AsksVersion words) × Keeps (streams.contents out) now
+EndsWords makes streams words out (end.NoValue text) now = Keeps (streams.contents out) now
+EndsWords makes streams words out (end.Told outcome) now =
     ((outcome ≡ no_memory) × Keeps (streams.contents out) now)
     ⊎ ((MayAskVersion words × TellsVersion (streams.contents out) outcome now)
-    ⊎ ((task : Task) × IsTaskOf words task × EndsTask streams task out outcome now))
+    ⊎ ((task : Task) × IsTaskOf words task × EndsTask makes streams task out outcome now))
 
--- the end of the program, by its words or by why there are none
-abbrev pub EndsProgram : {R S W : Type 0} → Streams R S W → Result (Vec (String Global) Global) WordsFault → W → End → Option (List ℕ) → Type 0
-EndsProgram streams (Err fault) out end now = EndsWithout fault (streams.contents out) end now
-EndsProgram streams (Ok words) out end now = EndsWords streams (joined (map (λ s. string_bytes s) words.items)) out end now
+-- the end of the program, by its words or by why there are none, with a maker that promises this
+abbrev pub EndsProgram : {R S W : Type 0} → Promise → Streams R S W → Result (Vec (String Global) Global) WordsFault → W → End → Option (List ℕ) → Type 0
+EndsProgram makes streams (Err fault) out end now = EndsWithout fault (streams.contents out) end now
+EndsProgram makes streams (Ok words) out end now = EndsWords makes streams (joined (map (λ s. string_bytes s) words.items)) out end now

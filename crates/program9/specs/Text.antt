@@ -4,7 +4,7 @@ use Rattle.std.specs.Fmt.{decimal}
 use Rattle.std.specs.String.{string_bytes}
 use Rattle.capture9.specs.Shown.{shown_text}
 use Rattle.capture9.specs.declared.shown_field.ShownField.{ShownField}
-use Rattle.picture9.specs.declared.picture.WhyNothing.TheVariants as nothing
+use Rattle.seen9.specs.declared.drawn.WhyNothing.TheVariants as nothing
 use Rattle.sheet9.specs.Text as sheet
 use Rattle.program9.specs.declared.ending.Message.{Message}
 use Rattle.program9.specs.declared.ending.Message.TheVariants as message
@@ -22,7 +22,7 @@ abbrev pub text_of : Message → List ℕ
 text_of message.Nothing = []
 text_of (message.Unreadable e) = codes "unreadable at row " ++ decimal e.row ++ codes ": " ++ word_of e.kind ++ codes "\n" ++ expected_of e.kind e.row ++ found_text e.field
 text_of (message.NoHeader n) = codes "unreadable at row 0: header\n" ++ file_name_of n.file ++ codes ": expected the header time_us,wire,byte; the first line is " ++ header_found n.found
-text_of (message.Refused r) = codes "ninecheck " ++ refuser_word r.by ++ codes ": line " ++ decimal r.refusal.line ++ codes ": " ++ string_bytes r.refusal.text
+text_of (message.Refused r) = codes "ninecheck " ++ refuser_word r.by ++ codes ": line " ++ decimal r.line ++ codes ": " ++ string_bytes r.text
 text_of (message.Notice n) = codes "ninecheck convert log: " ++ notice_text n
 text_of (message.Lines lines) = string_bytes lines
 text_of (message.NothingToDraw nothing.Yes) = codes "nothing to draw: the verdict is a yes"

@@ -5,9 +5,9 @@ use Rattle.std.specs.String.{string_bytes}
 use Rattle.capture9.specs.Fields.{most_rows}
 use Rattle.capture9.specs.declared.error.CaptureKind.{CaptureKind}
 use Rattle.capture9.specs.declared.error.CaptureKind.TheVariants as kind
-use Rattle.convert9.specs.declared.log.times.Notice.{Notice}
-use Rattle.convert9.specs.declared.log.times.Notice.TheVariants as notice
 use Rattle.words9.specs.declared.task.Export.TheVariants as export
+use Rattle.program9.specs.declared.ending.Notice.{Notice}
+use Rattle.program9.specs.declared.ending.Notice.TheVariants as notice
 use Rattle.program9.specs.declared.ending.Refuser.{Refuser}
 use Rattle.program9.specs.declared.ending.Refuser.TheVariants as by
 use Rattle.program9.specs.declared.ending.WhyUnopened.{WhyUnopened}

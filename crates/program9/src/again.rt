@@ -13,7 +13,7 @@ const MOST_KEPT: usize = 0x800_0000;
 
 /// A capture, as it is read.
 #[derive(Drop)]
-pub(crate) enum Again<'t, R: Read + Drop> {
+pub enum Again<'t, R: Read + Drop> {
     /// As it comes.
     Opened(R),
     /// Of one that was read to its end, what is still to be read this time.
@@ -26,7 +26,7 @@ pub(crate) enum Again<'t, R: Read + Drop> {
 
 /// What is read as it comes, and then a text.
 #[derive(Drop)]
-pub(crate) struct Followed<'t, R: Read + Drop> {
+pub struct Followed<'t, R: Read + Drop> {
     reader: R,
     text: &'t [u8],
     /// Whether what was read ends in the middle of a line.
@@ -48,7 +48,7 @@ impl<R: Read + Drop> Read for Again<'_, R> {
 
 impl<'t, R: Read + Drop> Followed<'t, R> {
     /// What the reader gives, and then this text, without a byte order mark before it.
-    pub(crate) fn new(reader: R, text: &'t [u8]) -> Followed<'t, R> {
+    pub fn new(reader: R, text: &'t [u8]) -> Followed<'t, R> {
         Followed {
             reader,
             text: text.strip_prefix(b"\xEF\xBB\xBF").unwrap_or(text),
@@ -75,7 +75,7 @@ impl<'t, R: Read + Drop> Followed<'t, R> {
 
 /// A reader, and what it gave so far.
 #[derive(Drop)]
-pub(crate) struct Keeping<R: Read + Drop> {
+pub struct Keeping<R: Read + Drop> {
     reader: R,
     /// None where it is more than [`MOST_KEPT`], or where memory for it was refused.
     text: Option<Vec<u8>>,
@@ -83,7 +83,7 @@ pub(crate) struct Keeping<R: Read + Drop> {
 
 impl<R: Read + Drop> Keeping<R> {
     /// A reader that gave nothing yet.
-    pub(crate) fn new(alloc: Global, reader: R) -> Keeping<R>
+    pub fn new(alloc: Global, reader: R) -> Keeping<R>
         ensures { result.reader ≡ reader }
     {
         Keeping {
@@ -93,7 +93,7 @@ impl<R: Read + Drop> Keeping<R> {
     }
 
     /// What it gave so far; an error where that is not kept.
-    pub(crate) fn text(&self) -> Result<&[u8], AllocError> {
+    pub fn text(&self) -> Result<&[u8], AllocError> {
         match &self.text {
             Some(text) => Ok(text.as_slice()),
             None => Err(AllocError),
@@ -102,7 +102,7 @@ impl<R: Read + Drop> Keeping<R> {
 
     /// Reads on to the end, so that the text is whole. It is not kept where it is too long, where the reader fails, or where memory is
     /// refused.
-    pub(crate) fn read_rest(&mut self) {
+    pub fn read_rest(&mut self) {
         let Some(text) = &mut self.text else {
             return;
         };
@@ -139,14 +139,14 @@ fn keep(text: &mut Option<Vec<u8>>, bytes: &[u8]) {
 }
 
 /// A text, to be read from its beginning where another capture of the program is read.
-pub(crate) fn text_again<R: Read + Drop>(text: &[u8]) -> Again<'_, R>
+pub fn text_again<R: Read + Drop>(text: &[u8]) -> Again<'_, R>
     ensures { still_to_come R.remaining result ≡ Some text.now }
 {
     Again::Kept(text)
 }
 
 /// Reads a capture to its end, to be read again and again. The error is that of the reader, or that memory is refused.
-pub(crate) fn read_whole<R: Read + Drop>(alloc: Global, reader: R) -> io::Result<Vec<u8>>
+pub fn read_whole<R: Read + Drop>(alloc: Global, reader: R) -> io::Result<Vec<u8>>
     ensures { IfOk result (λ text. IfSome (R.remaining reader) (λ known. text.items ≡ known)) }
 {
     let mut reader = reader;

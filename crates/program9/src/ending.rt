@@ -3,14 +3,13 @@
 use crate::no_header::NoHeader;
 use capture9::CaptureError;
 use clap::Error;
-use convert9::{Notice, Refusal};
-use picture9::WhyNothing;
+use seen9::WhyNothing;
 use sheet9::Refusal as SheetRefusal;
 use words9::{Export, NoValue};
 
 /// What is said on standard error, which its `Display` writes: two lines, without a line feed at the end, or nothing. The
 /// first line says what happened; the second what was expected, or what to look at.
-#[derive(Debug, Drop, PartialEq, Eq)]
+#[derive(Drop, PartialEq, Eq)]
 pub enum Message {
     /// There is a verdict, or the version was told, and there is nothing more to say.
     Nothing,
@@ -44,7 +43,7 @@ pub enum Message {
 }
 
 /// A file whose text is no deck sheet.
-#[derive(Debug, Drop, PartialEq, Eq)]
+#[derive(Drop, PartialEq, Eq)]
 pub struct UnreadSheet {
     /// The file, by the name that the words give.
     pub file: String,
@@ -53,16 +52,27 @@ pub struct UnreadSheet {
 }
 
 /// What was refused of an export, or of a split.
-#[derive(Debug, Drop, PartialEq, Eq)]
+#[derive(Drop, PartialEq, Eq)]
 pub struct RefusedExport {
     /// Which word refused it.
     pub by: Refuser,
-    /// The line, and what is wrong there.
-    pub refusal: Refusal,
+    /// The line of the export, or of the capture, where it is.
+    pub line: u64,
+    /// What is wrong there.
+    pub text: String,
+}
+
+/// What is said of the times of a log that was converted.
+#[derive(Clone, Copy, PartialEq, Eq)]
+pub enum Notice {
+    /// All of them are whole numbers.
+    WholeNumbers,
+    /// They are coarse.
+    Coarse,
 }
 
 /// A word that reads what is no capture, or is one that is cut.
-#[derive(Clone, Copy, Debug, PartialEq, Eq)]
+#[derive(Clone, Copy, PartialEq, Eq)]
 pub enum Refuser {
     /// `convert`, of this kind of export.
     Convert(Export),
@@ -71,7 +81,7 @@ pub enum Refuser {
 }
 
 /// A capture or a deck's sheet that was not opened.
-#[derive(Debug, Drop, PartialEq, Eq)]
+#[derive(Drop, PartialEq, Eq)]
 pub struct Unopened {
     /// The file, by the name that the words give; standard input where there is none.
     pub file: Option<String>,
@@ -80,7 +90,7 @@ pub struct Unopened {
 }
 
 /// Why a file was not opened, by the kind of the error that its opener gave, or its reader.
-#[derive(Clone, Copy, Debug, PartialEq, Eq)]
+#[derive(Clone, Copy, PartialEq, Eq)]
 pub enum WhyUnopened {
     /// There is no such file.
     NotFound,
@@ -98,7 +108,7 @@ pub enum WhyUnopened {
 }
 
 /// How the program ends where its words are a command.
-#[derive(Debug, Drop, PartialEq, Eq)]
+#[derive(Drop, PartialEq, Eq)]
 pub struct Outcome {
     /// The exit status: 0 yes, the version, or a capture that was made or cut; 1 no; 2 nothing to draw, or a wrong word of an export or a
     /// split; 3 a capture, an export or a deck's sheet that can't be read; 4 a reader or a writer that failed, or a file that can't be
@@ -112,7 +122,7 @@ impl Outcome {
     ghost use Rattle.std.specs.Prelude.{◌≡◌};
 
     /// The end with this status and this message.
-    pub(crate) const fn new(status: u8, message: Message) -> Outcome
+    pub const fn new(status: u8, message: Message) -> Outcome
         ensures { result ≡ record { status = status; message = message } }
     {
         Outcome { status, message }
@@ -120,7 +130,7 @@ impl Outcome {
 }
 
 /// How the program ends.
-#[derive(Debug, Drop)]
+#[derive(Drop)]
 pub enum End {
     /// The words are no command, or they ask for help. The `Display` of the error, where there is one, is the text for
     /// the user; there is none where a word is not UTF-8.

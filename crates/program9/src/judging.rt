@@ -9,19 +9,14 @@ ghost use Rattle.program9.specs.Judging.{EndsJudged, HandsOn, IsJudgedWithRun, W
 use crate::again::Again;
 use crate::buffered::Buffered;
 use crate::ending::Outcome;
-use crate::exporting::{convert, split};
-use crate::making::{draw, make, make_page, rewrite_times, tell_info, tell_touches, view_of};
-use crate::next::{Told, hinted, is_worth_asking, reading};
-use crate::status::{
-    outcome, outcome_in_parts, outcome_kept, outcome_made, outcome_rewritten, outcome_told,
-};
-use crate::trying::try_each;
+use crate::maker::{Maker, Told};
+use crate::next::{hinted, is_worth_asking, reading};
+use crate::status::{outcome, outcome_in_parts};
 use deck9::Profile;
 use judge9::{judge_for, judge_parts_for, judge_with_run_for};
 use report9::{Extent, JudgeError, RunVerdict, Scope, Verdict, write_run_for};
 use std::alloc::Global;
-use std::io::{self, Read, Write};
-use view9::{ClockFault, write_json_run};
+use std::io::{Read, Write};
 use words9::{Asked, ExportWords, Report};
 
 /// What is asked of a capture, and for which deck.
@@ -34,7 +29,7 @@ pub struct Job {
 }
 
 /// What the words name: files, and what they say of an export.
-#[derive(Debug, Drop, PartialEq, Eq)]
+#[derive(Drop, PartialEq, Eq)]
 pub struct Named {
     /// The file of the capture or the export; standard input where there is none.
     pub file: Option<String>,
@@ -49,28 +44,20 @@ pub struct Named {
 /// Judges the capture that the reader gives as the job says, and passes the whole report on to the writer behind the buffer.
 ///
 /// The report is that of `judge_for`, that of `judge_parts_for`, or the text of the run that `judge_with_run_for` answered, of which
-/// there is none where there is no verdict; or it is what a view makes, of which nothing is promised here. Below `why` lines may be said of
-/// what to ask next. A page says which files the words
-/// name. An export becomes a capture, and a capture is cut into parts, each of which `make_part` makes: it is asked with the part's name,
-/// and must not give a file that was there before. The end is that of the verdict, of the totals or of the refusal of that judging, as
+/// there is none where there is no verdict; or it is what `maker` makes, of which that is promised what it promises. Below `why` lines may
+/// be said of what to ask next. The end of a report is that of the verdict, of the totals or of the refusal of that judging, as
 /// [`outcome`] and [`outcome_in_parts`] say, where the writer took the whole report. Else it is a write fault, and the writer has a
 /// first part of the report; what the buffer still holds is not written. After a write that failed, that was interrupted or that
 /// took no byte, none is tried again.
-pub fn judge_and_flush<
-    R: Read + Drop,
-    W: Write + Drop,
-    P: Write + Drop,
-    H: Fn(&str) -> io::Result<P>,
->(
+pub fn judge_and_flush<R: Read + Drop, W: Write + Drop, M: Maker>(
     alloc: Global,
     reader: R,
     out: &mut Buffered<W>,
     job: Job,
     named: &Named,
-    make_part: &H,
+    maker: &M,
 ) -> Outcome
-    requires { H.IsAlwaysCallable make_part.now }
-    ensures { EndsJudged job.asked.report job (R.remaining reader) (held_contents W.contents out.old) result (contents_behind W.contents out.new) }
+    ensures { EndsJudged M.makes job.asked.report job (R.remaining reader) (held_contents W.contents out.old) result (contents_behind W.contents out.new) }
 {
     let beginning = job.asked.beginning;
     match job.asked.report {
@@ -94,7 +81,7 @@ pub fn judge_and_flush<
                 scope,
                 profile,
             };
-            hinted(alloc, kept, told, outcome(&judged))
+            hinted(alloc, kept, told, outcome(&judged), maker)
         }
         Report::Parts(view) => {
             let scope = Scope {
@@ -111,59 +98,10 @@ pub fn judge_and_flush<
                 scope,
                 profile,
             };
-            hinted(alloc, kept, told, end)
+            hinted(alloc, kept, told, end, maker)
         }
-        Report::Made(made, extent) => {
-            let of = view_of(&job, extent);
-            let judged = make(alloc, Again::Opened(reader), out, made, of);
-            outcome_made(&ended(out, judged))
-        }
-        Report::JsonRun => {
-            let judged = tell_json_run(alloc, Again::Opened(reader), out, &job);
-            outcome(&ended(out, judged))
-        }
-        Report::Clock(form) => {
-            let told = rewrite_times(alloc, reader, out, form);
-            outcome_rewritten(&flushed(out, told))
-        }
-        Report::Info => {
-            let told = tell_info(alloc, Again::Opened(reader), out, &job);
-            outcome_told(&ended(out, told))
-        }
-        Report::Try(extent) => {
-            let scope = Scope { extent, beginning };
-            let told = try_each(alloc, reader, out, scope, job.profile);
-            outcome_kept(ended(out, told))
-        }
-        Report::Touches => {
-            let judged = tell_touches(alloc, Again::Opened(reader), out, &job);
-            outcome_made(&ended(out, judged))
-        }
-        Report::Picture(extent) => {
-            let scope = Scope { extent, beginning };
-            let told = draw(alloc, reader, out, scope, &job);
-            outcome_kept(ended(out, told))
-        }
-        Report::Page => {
-            let told = make_page(alloc, reader, out, &job, named);
-            outcome_kept(ended(out, told))
-        }
-        Report::Convert(export) => convert(alloc, reader, out, export, named),
-        Report::Split => split(alloc, Again::Opened(reader), out, named, make_part),
+        Report::Made(made) => maker.make(alloc, reader, out, made, job, named),
     }
-}
-
-/// Judges the capture to its first break, and writes its run as JSON where there is one.
-#[inline(never)] // else the loops over records of the reports are compiled with it in one function, and worse
-fn tell_json_run<R: Read + Drop, W: Write>(
-    alloc: Global,
-    reader: R,
-    writer: &mut W,
-    job: &Job,
-) -> Result<Verdict, JudgeError> {
-    let run = judge_with_run_for(alloc, reader, job.asked.beginning, &job.profile)?;
-    write_json_run(alloc, writer, &run, &job.profile)?;
-    Ok(verdict_of(&run))
 }
 
 /// Judges the capture to its first break, and writes the text of its run where there is one.
@@ -194,7 +132,7 @@ fn write_run<W: Write>(
 }
 
 /// The verdict of a run, with the number of its exchanges.
-fn verdict_of(run: &RunVerdict) -> Verdict
+pub fn verdict_of(run: &RunVerdict) -> Verdict
     requires { CanBeVerdict (verdict_of run.now) }
     ensures { result ≡ verdict_of run.now }
 {
@@ -217,7 +155,7 @@ fn verdict_of(run: &RunVerdict) -> Verdict
 }
 
 /// The end of a judging that answered this: all is passed on, unless a write failed already.
-pub(crate) fn ended<W: Write + Drop, A: Drop>(
+pub fn ended<W: Write + Drop, A: Drop>(
     out: &mut Buffered<W>,
     judged: Result<A, JudgeError>,
 ) -> Result<A, JudgeError>
@@ -232,19 +170,5 @@ pub(crate) fn ended<W: Write + Drop, A: Drop>(
     match out.flush() {
         Ok(()) => judged,
         Err(_) => Err(JudgeError::Write),
-    }
-}
-
-/// The end of a text that was rewritten: all is passed on, unless a write failed already.
-fn flushed<W: Write + Drop>(
-    out: &mut Buffered<W>,
-    told: Result<(), ClockFault>,
-) -> Result<(), ClockFault> {
-    if let Err(ClockFault::Write) = told {
-        return told;
-    }
-    match out.flush() {
-        Ok(()) => told,
-        Err(_) => Err(ClockFault::Write),
     }
 }

@@ -1,34 +1,31 @@
-//! The program from the words of the command line to its end, without the files: what opens a capture is handed in, and so is
-//! the writer of the report. `ninecheck` hands in those of the machine.
+//! The program from the words of the command line to its end, without the files and without the views: what opens a capture is handed
+//! in, and so are the writer of the report and the [`Maker`] of all that is no report. `ninecheck` hands in those of the machine.
 #![tactic(auto)]
 
 mod again;
 mod buffered;
 mod ending;
-mod exporting;
 mod first_bytes;
 mod held;
 mod judging;
 pub mod laws;
-mod making;
+mod maker;
 mod message;
 mod next;
 mod no_header;
 mod program;
 mod sheet;
 mod status;
-mod trying;
 mod version;
 
+pub use again::{Again, Followed, Keeping, read_whole, text_again};
 pub use buffered::Buffered;
 pub use ending::{
-    End, Message, Outcome, RefusedExport, Refuser, Unopened, UnreadSheet, WhyUnopened,
+    End, Message, Notice, Outcome, RefusedExport, Refuser, Unopened, UnreadSheet, WhyUnopened,
 };
-pub use judging::{Job, Named, judge_and_flush};
+pub use judging::{Job, Named, ended, judge_and_flush, verdict_of};
+pub use maker::{Maker, Told};
+pub use message::word_of;
 pub use no_header::{FoundHeader, LooksLike, NoHeader};
 pub use program::run_program;
-pub use status::{
-    outcome, outcome_converted, outcome_drawn, outcome_in_parts, outcome_made, outcome_rewritten,
-    outcome_told,
-};
-pub use trying::{Answer, Terms};
+pub use status::{outcome, outcome_in_parts, outcome_refused};

@@ -2,10 +2,9 @@
 ghost use Rattle.std.specs.Prelude.{◌≡◌};
 ghost use Rattle.program9.specs.Word.{expected_of, file_name_of, first_line_of, notice_text, reason_of, refuser_word, word_of};
 
-use crate::ending::{Message, Refuser, WhyUnopened};
+use crate::ending::{Message, Notice, Refuser, WhyUnopened};
 use capture9::{CaptureKind, MOST_ROWS};
-use convert9::Notice;
-use picture9::WhyNothing;
+use seen9::WhyNothing;
 use std::fmt;
 use words9::Export;
 
@@ -34,8 +33,8 @@ impl fmt::Display for Message {
                 )
             }
             Message::Refused(refused) => {
-                let (word, line) = (refuser_word(refused.by), refused.refusal.line);
-                let text = refused.refusal.text.as_str();
+                let (word, line) = (refuser_word(refused.by), refused.line);
+                let text = refused.text.as_str();
                 write!(f, "ninecheck {word}: line {line}: {text}")
             }
             Message::Notice(notice) => {
@@ -85,7 +84,7 @@ impl fmt::Display for Message {
 }
 
 /// What is wrong at a row, in a word or two.
-pub(crate) fn word_of<'a>(kind: CaptureKind) -> &'a str
+pub fn word_of<'a>(kind: CaptureKind) -> &'a str
     ensures { result.now ≡ word_of kind }
 {
     match kind {

@@ -8,7 +8,7 @@ use capture9::{CaptureError, CaptureKind, ShownField};
 use std::fmt;
 
 /// A capture whose header is none.
-#[derive(Debug, Drop, PartialEq, Eq)]
+#[derive(Drop, PartialEq, Eq)]
 pub struct NoHeader {
     /// The file, by the name that the words give; standard input where there is none.
     pub file: Option<String>,
@@ -17,7 +17,7 @@ pub struct NoHeader {
 }
 
 /// What stands in the place of a capture's header. Its `Display` writes that line in quotes, and what to do about it.
-#[derive(Clone, Copy, Debug, PartialEq, Eq)]
+#[derive(Clone, Copy, PartialEq, Eq)]
 pub struct FoundHeader {
     /// The capture's first line that is not empty, as far as it is shown.
     pub line: ShownField,
@@ -26,7 +26,7 @@ pub struct FoundHeader {
 }
 
 /// What a capture without a header looks like, by its first line: a guess, to send its reader on.
-#[derive(Clone, Copy, Debug, PartialEq, Eq)]
+#[derive(Clone, Copy, PartialEq, Eq)]
 pub enum LooksLike {
     /// There is no text in it.
     Empty,

@@ -10,6 +10,7 @@ use crate::buffered::Buffered;
 use crate::ending::{End, Message, Outcome, Unopened, WhyUnopened};
 use crate::first_bytes::FirstBytes;
 use crate::judging::{Job, Named, judge_and_flush};
+use crate::maker::Maker;
 use crate::no_header::{found_in, with_header};
 use crate::sheet::{Other, read_other};
 use crate::version::tell_version;
@@ -36,8 +37,8 @@ struct Begun<R: Read + Drop, W: Write + Drop> {
 /// writer as it left it.
 ///
 /// `sheet_opener` is asked once, for the task's sheet, or for the deck's file of an export, where it names one; and then `opener` once,
-/// for the task's file, where there is a task and its sheet is none that was refused. `make_part` makes the parts of a split: it is asked
-/// with the name of each, and must not give a file that was there before. The end is
+/// for the task's file, where there is a task and its sheet is none that was refused. `maker` makes what the words ask for beside the
+/// reports of a judging, and promises what it says. The end is
 ///
 /// * `Usage` only where the words are no command, or could not be fetched as text: nothing is written;
 /// * `NoValue` only where the words are one, but for the value of `--from` or `--to`, which is no time: nothing is written;
@@ -45,7 +46,7 @@ struct Begun<R: Read + Drop, W: Write + Drop> {
 ///   gone: with their verb, at their rate, with hands where they say so, for a deck that does what the sheet says, from the first
 ///   record that may begin a command where they say `--sync`, with `explain` each exchange with its bytes where they say `--bytes`,
 ///   and with `check`, `explain` and `why` part by part where they say `--all`; its report went through a buffer, which hands on each
-///   line at once exactly where they say `--line-buffered`;
+///   line at once exactly where they say `--line-buffered`; or, where they ask for something that is made, the `Outcome` of the maker;
 /// * status 3 with `UnreadableSheet`, the file and what is wrong, where the sheet is none; status 4 with `CannotOpenSheet`, the file
 ///   and the reason, where `sheet_opener` or its reader failed: nothing is written;
 /// * status 4 with `CannotOpen`, the file and the reason where `opener` failed: nothing is written;
@@ -57,21 +58,19 @@ pub fn run_program<
     S: Read + Drop,
     F: FnOnce(&Option<String>) -> io::Result<R>,
     R: Read + Drop,
-    H: Fn(&str) -> io::Result<P>,
-    P: Write + Drop,
+    M: Maker,
     W: Write + Drop,
 >(
     alloc: Global,
     words: Result<Vec<String>, WordsFault>,
     sheet_opener: G,
     opener: F,
-    make_part: H,
+    maker: &M,
     out: W,
 ) -> (End, W)
     requires sheet { G.IsAlwaysCallable sheet_opener }
     requires capture { F.IsAlwaysCallable opener }
-    requires part { H.IsAlwaysCallable make_part }
-    ensures { EndsProgram (record { opens = FnOnceReturnsAt F.FnOnce opener; coming = R.remaining; opens_sheet = FnOnceReturnsAt G.FnOnce sheet_opener; coming_sheet = S.remaining; contents = W.contents })
+    ensures { EndsProgram M.makes (record { opens = FnOnceReturnsAt F.FnOnce opener; coming = R.remaining; opens_sheet = FnOnceReturnsAt G.FnOnce sheet_opener; coming_sheet = S.remaining; contents = W.contents })
         words out result.0 (W.contents result.1) }
 {
     let words = match words {
@@ -80,7 +79,7 @@ pub fn run_program<
     };
     match read_words(alloc, words) {
         Ok(task) => {
-            let (end, out) = carry_out(alloc, task, sheet_opener, opener, make_part, out);
+            let (end, out) = carry_out(alloc, task, sheet_opener, opener, maker, out);
             (End::Told(end), out)
         }
         Err(fault) => end_without(fault, out),
@@ -108,14 +107,12 @@ fn carry_out<
     S: Read + Drop,
     F: FnOnce(&Option<String>) -> io::Result<R>,
     R: Read + Drop,
-    H: Fn(&str) -> io::Result<P>,
-    P: Write + Drop,
+    M: Maker,
     W: Write + Drop,
->(alloc: Global, task: Task, sheet_opener: G, opener: F, make_part: H, out: W) -> (Outcome, W)
+>(alloc: Global, task: Task, sheet_opener: G, opener: F, maker: &M, out: W) -> (Outcome, W)
     requires sheet { G.IsAlwaysCallable sheet_opener }
     requires capture { F.IsAlwaysCallable opener }
-    requires part { H.IsAlwaysCallable make_part }
-    ensures { EndsTask (record { opens = FnOnceReturnsAt F.FnOnce opener; coming = R.remaining; opens_sheet = FnOnceReturnsAt G.FnOnce sheet_opener; coming_sheet = S.remaining; contents = W.contents })
+    ensures { EndsTask M.makes (record { opens = FnOnceReturnsAt F.FnOnce opener; coming = R.remaining; opens_sheet = FnOnceReturnsAt G.FnOnce sheet_opener; coming_sheet = S.remaining; contents = W.contents })
         task out result.0 (W.contents result.1) }
 {
     match begin(alloc, task, sheet_opener, opener, out) {
@@ -127,7 +124,7 @@ fn carry_out<
                 named,
             } = begun;
             let mut reader = FirstBytes::of(reader);
-            let judged = judge_and_flush(alloc, &mut reader, &mut out, job, &named, &make_part);
+            let judged = judge_and_flush(alloc, &mut reader, &mut out, job, &named, maker);
             let judged = with_header(judged, named.file, found_in(reader.as_slice()));
             taken_back(out, judged)
         }

@@ -6,7 +6,7 @@ use report9::{TextBuffer, put_head};
 use std::alloc::AllocError;
 
 /// What a command is called. Two that are called the same have the same text.
-#[derive(Clone, Copy, Debug, PartialEq, Eq, Hash)]
+#[derive(Clone, Copy, PartialEq, Eq, Hash)]
 pub enum Called<'a> {
     /// By its name.
     Name(&'a [u8]),

@@ -1,14 +1,14 @@
 //! What an exchange changes of what is known of the deck.
 
 use crate::field::{FIELDS, Field, Value};
-use crate::seen::SeenExchange;
 use crate::text::Text;
 use deck9::Hands;
+use seen9::SeenExchange;
 use std::alloc::{AllocError, Global};
 use tc25::Rate;
 
 /// A field of which something else is known than before.
-#[derive(Clone, Copy, Debug, PartialEq, Eq)]
+#[derive(Clone, Copy, PartialEq, Eq)]
 pub struct Change {
     /// The field.
     pub field: Field,

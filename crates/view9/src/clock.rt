@@ -7,7 +7,7 @@ use std::alloc::{AllocError, Global};
 use std::io::{self, BufRead, ErrorKind, Write};
 
 /// Why a text was not written to its end.
-#[derive(Clone, Copy, Debug, PartialEq, Eq)]
+#[derive(Clone, Copy, PartialEq, Eq)]
 pub enum ClockFault {
     /// It can't be read.
     Read,

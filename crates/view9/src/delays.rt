@@ -2,15 +2,15 @@
 
 use crate::called::Called;
 use crate::delay_counts::DelayCounts;
-use crate::follow::show;
-use crate::seen::{Ending, SeenBreak, SeenExchange, View, ViewOf};
+use crate::put_ending::put_ending;
 use crate::text::Text;
 use block9::{Exchange, REPLY_LIMIT_US};
 use deck9::Profile;
 use indexmap::IndexMap;
 use report9::{JudgeError, write_all};
+use seen9::{Ending, SeenBreak, SeenExchange, View};
 use std::alloc::{AllocError, Global};
-use std::io::{Read, Write};
+use std::io::Write;
 
 /// How many microseconds a bar of the histogram is for.
 const BAR_US: u64 = 500;
@@ -24,28 +24,9 @@ const MOST_MARKS: u64 = 50;
 /// How many late replies are listed. The others are counted.
 const MOST_LATE: usize = 100;
 
-/// Writes how long the deck took to reply in the capture that the reader gives: how the capture ends. All is written at the end. The
-/// writer is not flushed.
-pub fn write_delays<R: Read + Drop, W: Write>(
-    alloc: Global,
-    reader: R,
-    writer: &mut W,
-    of: ViewOf<'_>,
-) -> Result<Ending, JudgeError> {
-    let mut delays = Delays {
-        alloc,
-        profile: of.profile,
-        writer,
-        of_command: IndexMap::new(alloc),
-        late: Vec::new(alloc),
-        late_replies: 0,
-    };
-    show(alloc, reader, &mut delays, of)
-}
-
-/// The delays so far.
+/// How long the deck took to reply in a capture, so far. All is written at the end. The writer is not flushed.
 #[derive(Drop)]
-struct Delays<'a, W: Write> {
+pub struct Delays<'a, W: Write> {
     alloc: Global,
     profile: &'a Profile,
     writer: &'a mut W,
@@ -56,7 +37,19 @@ struct Delays<'a, W: Write> {
     late_replies: u64,
 }
 
-impl<W: Write> Delays<'_, W> {
+impl<'a, W: Write> Delays<'a, W> {
+    /// None yet, of a deck that is taken for this, to be written there.
+    pub fn new(alloc: Global, writer: &'a mut W, profile: &'a Profile) -> Delays<'a, W> {
+        Delays {
+            alloc,
+            profile,
+            writer,
+            of_command: IndexMap::new(alloc),
+            late: Vec::new(alloc),
+            late_replies: 0,
+        }
+    }
+
     /// Counts the reply of an exchange.
     fn count(&mut self, exchange: &Exchange) -> Result<(), AllocError> {
         let alloc = self.alloc;
@@ -114,7 +107,7 @@ impl<W: Write> Delays<'_, W> {
         put_marks(text, "-", MOST_MARKS);
         text.put("\n");
         self.put_late(text);
-        ending.put(text);
+        put_ending(text, ending);
     }
 }
 

@@ -2,41 +2,20 @@
 
 use crate::break_run::BreakRun;
 use crate::changes::{Changes, put_changes};
-use crate::follow::show;
-use crate::seen::{Ending, SeenBreak, SeenExchange, View, ViewOf};
+use crate::put_ending::put_ending;
 use crate::strength::Strength;
 use crate::tally::Tally;
 use crate::text::Text;
 use crate::track::Place;
 use deck9::Profile;
 use report9::{JudgeError, put_command, put_no_line, put_reply, write_all};
+use seen9::{Ending, SeenBreak, SeenExchange, View};
 use std::alloc::Global;
-use std::io::{Read, Write};
+use std::io::Write;
 
-/// Writes the digest of the capture that the reader gives: how the capture ends. Each line is written as soon as it is known. The
-/// writer is not flushed.
-pub fn write_digest<R: Read + Drop, W: Write>(
-    alloc: Global,
-    reader: R,
-    writer: &mut W,
-    of: ViewOf<'_>,
-) -> Result<Ending, JudgeError> {
-    let mut digest = Digest {
-        profile: of.profile,
-        writer,
-        line: Text::new(alloc),
-        folded: Tally::new(alloc, of.profile),
-        breaks: None,
-        changes: Changes::new(alloc, of.profile.hands),
-        strength: Strength::new(alloc, of.profile),
-        late_replies: 0,
-    };
-    show(alloc, reader, &mut digest, of)
-}
-
-/// A digest, as far as it is written.
+/// The digest of a capture, as far as it is written. Each line is written as soon as it is known. The writer is not flushed.
 #[derive(Drop)]
-struct Digest<'a, W: Write> {
+pub struct Digest<'a, W: Write> {
     profile: &'a Profile,
     writer: &'a mut W,
     /// Room for lines.
@@ -50,7 +29,21 @@ struct Digest<'a, W: Write> {
     late_replies: u32,
 }
 
-impl<W: Write> Digest<'_, W> {
+impl<'a, W: Write> Digest<'a, W> {
+    /// Nothing yet, of a deck that is taken for this, to be written there.
+    pub fn new(alloc: Global, writer: &'a mut W, profile: &'a Profile) -> Digest<'a, W> {
+        Digest {
+            profile,
+            writer,
+            line: Text::new(alloc),
+            folded: Tally::new(alloc, profile),
+            breaks: None,
+            changes: Changes::new(alloc, profile.hands),
+            strength: Strength::new(alloc, profile),
+            late_replies: 0,
+        }
+    }
+
     /// Begins to put lines, with that of the queries or of the breaks since the last one.
     fn put_since(&mut self) {
         self.line.clear();
@@ -127,7 +120,7 @@ impl<W: Write> View for Digest<'_, W> {
             self.breaks = None; // a no is the line of its break
         }
         self.put_since();
-        ending.put(&mut self.line);
+        put_ending(&mut self.line, ending);
         if self.late_replies > 0 {
             self.line
                 .put_count("late replies: ", u64::from(self.late_replies))

@@ -5,7 +5,7 @@ use report9::{TextBuffer, put_text};
 use tc25::{Rate, TimeCode};
 
 /// A field of what is known of a deck, in the order in which reports tell them.
-#[derive(Clone, Copy, Debug, PartialEq, Eq)]
+#[derive(Clone, Copy, PartialEq, Eq)]
 pub enum Field {
     /// The commanded mode.
     Goal,
@@ -26,7 +26,7 @@ pub enum Field {
 }
 
 /// What is known of a field.
-#[derive(Clone, Copy, Debug, PartialEq, Eq)]
+#[derive(Clone, Copy, PartialEq, Eq)]
 pub enum Value {
     /// Nothing.
     Unknown,

@@ -1,7 +1,6 @@
 //! Views of a capture: each is made of what its judging comes to, in one pass over the records, and none reads a report.
 //!
-//! [`show`] judges a capture and hands each event to a [`View`]: an exchange with what was known of the deck before and after it, a
-//! late reply, a break, and the end.
+//! A view is a value: who judges the capture hands it each event (`View` of `seen9`), and it writes what it makes of them.
 #![tactic(auto)]
 
 mod break_run;
@@ -13,11 +12,10 @@ mod delay_counts;
 mod delays;
 mod digest;
 mod field;
-mod follow;
 mod motion;
 mod motion_text;
 mod objects;
-mod seen;
+mod put_ending;
 mod strength;
 mod tally;
 mod text;
@@ -32,16 +30,14 @@ pub use changes::{Change, Changes, put_changes};
 pub use clock::{ClockFault, write_clock};
 pub use decimal::{put_fixed, put_seconds};
 pub use delay_counts::DelayCounts;
-pub use delays::write_delays;
-pub use digest::write_digest;
+pub use delays::Delays;
+pub use digest::Digest;
 pub use field::{FIELDS, Field, Value};
-pub use follow::{show, show_explained};
 pub use motion::{Motion, MotionLine, Outcome};
-pub use motion_text::write_motion;
-pub use objects::{write_json, write_json_run};
-pub use seen::{Ending, ExplainedView, SeenBreak, SeenExchange, View, ViewOf};
+pub use motion_text::MotionText;
+pub use objects::{Json, write_json_run};
 pub use strength::{Strength, put_lapses};
 pub use tally::Tally;
 pub use text::Text;
-pub use touches::{Moment, Touch, Touched, write_touches};
+pub use touches::{Moment, Touch, Touched, Touches};
 pub use track::Place;

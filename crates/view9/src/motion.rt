@@ -4,7 +4,6 @@
 //! A late reply ends no part, and so no command's line.
 
 use crate::called::Called;
-use crate::seen::SeenExchange;
 use crate::text::Text;
 use crate::track::{Answer, Place, take_answer};
 use crate::transport::{Followed, Transport, Way};
@@ -12,6 +11,7 @@ use crate::worth::Showing;
 use block9::Command;
 use deck9::{Known, ModeSet, Profile, Status};
 use indexmap::IndexMap;
+use seen9::SeenExchange;
 use std::alloc::{AllocError, Global};
 
 /// A line that tells a deck's motion.
@@ -26,7 +26,7 @@ pub struct MotionLine {
 }
 
 /// What came of one command. A count stays at its greatest once that is reached.
-#[derive(Clone, Copy, Debug, Default, PartialEq, Eq)]
+#[derive(Clone, Copy, Default, PartialEq, Eq)]
 pub struct Outcome {
     /// How often it was acknowledged.
     pub commands: u32,

@@ -1,13 +1,14 @@
 //! The text that tells the motion: a line for each command, a table of the responses, and what is worth looking at.
 
 use crate::called::Called;
-use crate::follow::show;
 use crate::motion::{Motion, MotionLine, Outcome};
-use crate::seen::{Ending, SeenBreak, SeenExchange, View, ViewOf};
+use crate::put_ending::put_ending;
 use crate::text::Text;
+use deck9::Profile;
 use report9::{JudgeError, write_all};
+use seen9::{Ending, SeenBreak, SeenExchange, View};
 use std::alloc::{AllocError, Global};
-use std::io::{Read, Write};
+use std::io::Write;
 
 /// The first line.
 const TITLE: &str =
@@ -16,30 +17,11 @@ const TITLE: &str =
 /// How many lines are listed that are worth looking at. The others are counted.
 const MOST_LISTED: u64 = 100;
 
-/// Writes what the deck did in the capture that the reader gives: how the capture ends. A command's line is written as soon as the
-/// next one comes. All of the capture is followed, and what lies in the stretch has lines and counts: a command by its
-/// acknowledgement, and what is worth looking at by the record that it names. The writer is not flushed.
-pub fn write_motion<R: Read + Drop, W: Write>(
-    alloc: Global,
-    reader: R,
-    writer: &mut W,
-    of: ViewOf<'_>,
-) -> Result<Ending, JudgeError> {
-    let mut lines = Text::new(alloc);
-    lines.put(TITLE);
-    let mut text = MotionText {
-        writer,
-        motion: Motion::new(alloc, of.profile),
-        lines,
-        worth: 0,
-        worth_lines: Text::new(alloc),
-    };
-    show(alloc, reader, &mut text, of)
-}
-
-/// The text, as far as it is written.
+/// What the deck did in a capture, as far as it is written. A command's line is written as soon as the next one comes. All of the capture
+/// is followed, and what lies in the stretch has lines and counts: a command by its acknowledgement, and what is worth looking at by the
+/// record that it names. The writer is not flushed.
 #[derive(Drop)]
-struct MotionText<'a, W: Write> {
+pub struct MotionText<'a, W: Write> {
     writer: &'a mut W,
     motion: Motion<'a>,
     /// Lines that are to be written.
@@ -50,7 +32,20 @@ struct MotionText<'a, W: Write> {
     worth_lines: Text,
 }
 
-impl<W: Write> MotionText<'_, W> {
+impl<'a, W: Write> MotionText<'a, W> {
+    /// The title, of a deck that is taken for this, to be written there.
+    pub fn new(alloc: Global, writer: &'a mut W, profile: &'a Profile) -> MotionText<'a, W> {
+        let mut lines = Text::new(alloc);
+        lines.put(TITLE);
+        MotionText {
+            writer,
+            motion: Motion::new(alloc, profile),
+            lines,
+            worth: 0,
+            worth_lines: Text::new(alloc),
+        }
+    }
+
     /// Takes the lines that are told, and writes those of commands.
     fn take_lines(&mut self) -> Result<(), JudgeError> {
         for line in self.motion.lines() {
@@ -152,7 +147,7 @@ impl<W: Write> View for MotionText<'_, W> {
         self.take_lines()?;
         self.put_outcomes();
         self.put_worth()?;
-        ending.put(&mut self.lines);
+        put_ending(&mut self.lines, ending);
         self.write()
     }
 }

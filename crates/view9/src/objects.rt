@@ -5,18 +5,18 @@ mod told;
 mod why;
 
 use crate::field::Field;
-use crate::follow::{show, show_explained};
-use crate::seen::{Ending, SeenBreak, SeenExchange, View, ViewOf};
 use deck9::Profile;
 use line::Line;
 use report9::{Detail, Extent, JudgeError, RunVerdict, Verdict, known_state};
+use seen9::{Ending, SeenBreak, SeenExchange, View, ViewOf};
 use std::alloc::Global;
-use std::io::{Read, Write};
+use std::io::Write;
 use told::Told;
 
-/// JSON of a capture that is judged.
+/// JSON of a capture that is judged: an object for each line that its report has, each as soon as it is known. Of what comes outside the
+/// stretch there is none, but for the verdict or the totals. The writer is not flushed.
 #[derive(Drop)]
-struct Json<'a, W: Write> {
+pub struct Json<'a, W: Write> {
     alloc: Global,
     writer: &'a mut W,
     profile: &'a Profile,
@@ -25,30 +25,25 @@ struct Json<'a, W: Write> {
     extent: Extent,
 }
 
-/// Judges the capture that the reader gives, and writes an object for each line that its report with this view has, each as soon as it
-/// is known: how it ends. Of what comes outside the stretch there is none, but for the verdict or the totals. To say why records break
-/// rules it keeps the exchanges of a part.
-pub fn write_json<R: Read + Drop, W: Write>(
-    alloc: Global,
-    reader: R,
-    writer: &mut W,
-    view: report9::View,
-    of: ViewOf<'_>,
-) -> Result<Ending, JudgeError> {
-    let detail = match view {
-        report9::View::Explain(detail) => Some(detail),
-        _ => None,
-    };
-    let mut json = Json {
-        alloc,
-        writer,
-        profile: of.profile,
-        detail,
-        extent: of.scope.extent,
-    };
-    match view {
-        report9::View::Why => show_explained(alloc, reader, &mut json, of),
-        _ => show(alloc, reader, &mut json, of),
+impl<'a, W: Write> Json<'a, W> {
+    /// Nothing yet, of a report with this view, to be written there.
+    pub fn new(
+        alloc: Global,
+        writer: &'a mut W,
+        view: report9::View,
+        of: ViewOf<'a>,
+    ) -> Json<'a, W> {
+        let detail = match view {
+            report9::View::Explain(detail) => Some(detail),
+            _ => None,
+        };
+        Json {
+            alloc,
+            writer,
+            profile: of.profile,
+            detail,
+            extent: of.scope.extent,
+        }
     }
 }
 

@@ -2,11 +2,11 @@
 
 use crate::called::Called;
 use crate::field::{FIELDS, Field, Value};
-use crate::seen::SeenExchange;
 use crate::text::Text;
 use block9::{Command, Exchange};
 use deck9::Profile;
 use indexmap::IndexMap;
+use seen9::SeenExchange;
 use std::alloc::{AllocError, Global};
 
 /// At how many exchanges each field was known, and after which commands it was known no more. A count stays at its greatest once

@@ -2,19 +2,18 @@
 
 use crate::changes::Change;
 use crate::field::Field;
-use crate::follow::show;
-use crate::seen::{Ending, SeenExchange, View, ViewOf};
+use crate::put_ending::put_ending;
 use crate::text::Text;
 use block9::Exchange;
-use deck9::{Profile, State};
+use deck9::{HandMove, Profile, State};
 use report9::{JudgeError, Verdict, known_state, write_all};
-use run9::{Move, fewest_moves};
+use seen9::{Ending, MoveSearch, SeenExchange, View};
 use std::alloc::{AllocError, Global};
-use std::io::{Read, Write};
+use std::io::Write;
 use tc25::Rate;
 
 /// A touch of the panel: it comes between two exchanges.
-#[derive(Clone, Copy, Debug, PartialEq, Eq)]
+#[derive(Clone, Copy, PartialEq, Eq)]
 pub struct Touch {
     /// The last record of the exchange before it.
     pub after: Moment,
@@ -27,7 +26,7 @@ pub struct Touch {
 }
 
 /// A record, and when it came.
-#[derive(Clone, Copy, Debug, PartialEq, Eq)]
+#[derive(Clone, Copy, PartialEq, Eq)]
 pub struct Moment {
     /// Its number, counted from 1.
     pub record: u32,
@@ -37,16 +36,19 @@ pub struct Moment {
 
 /// The exchanges of a part so far, and where their records lie.
 #[derive(Drop)]
-pub struct Touched {
+pub struct Touched<'a, S: MoveSearch> {
+    /// What finds the moves of a hand.
+    search: &'a S,
     exchanges: Vec<Exchange>,
     /// The last record of each.
     ends: Vec<Moment>,
 }
 
-impl Touched {
-    /// Of a part that has no exchange yet.
-    pub fn new(alloc: Global) -> Touched {
+impl<'a, S: MoveSearch> Touched<'a, S> {
+    /// Of a part that has no exchange yet. Its touches are found by this search.
+    pub fn new(alloc: Global, search: &'a S) -> Touched<'a, S> {
         Touched {
+            search,
             exchanges: Vec::new(alloc),
             ends: Vec::new(alloc),
         }
@@ -69,11 +71,12 @@ impl Touched {
         alloc: Global,
         profile: &Profile,
     ) -> Result<Option<Vec<Touch>>, AllocError> {
-        let Some(run) = fewest_moves(alloc, profile, self.exchanges.as_slice())? else {
+        let exchanges = self.exchanges.as_slice();
+        let Some(moves) = self.search.fewest_moves(alloc, profile, exchanges)? else {
             return Ok(None);
         };
         let mut touches = Vec::new(alloc);
-        for moved in run.moves.iter() {
+        for moved in moves.iter() {
             if let Some(touch) = self.touch(moved) {
                 touches.push(touch)?;
             }
@@ -82,7 +85,7 @@ impl Touched {
     }
 
     /// The touch that a move of a hand is. One comes before it and behind it, so there always is one.
-    fn touch(&self, moved: &Move) -> Option<Touch> {
+    fn touch(&self, moved: &HandMove) -> Option<Touch> {
         let after = self.ends.get(moved.place.checked_sub(1)?)?;
         let behind = self.exchanges.get(moved.place)?;
         Some(Touch {
@@ -136,33 +139,34 @@ impl Moment {
     }
 }
 
-/// Writes where somebody must have touched the panel in the capture that the reader gives, judged to its first break, where it is a yes,
-/// and then the verdict: how the capture ends. The profile has to allow hands. All is written at the end. The writer is not flushed.
-pub fn write_touches<R: Read + Drop, W: Write>(
-    alloc: Global,
-    reader: R,
-    writer: &mut W,
-    of: ViewOf<'_>,
-) -> Result<Ending, JudgeError> {
-    let mut touches = Touches {
-        alloc,
-        writer,
-        profile: of.profile,
-        touched: Touched::new(alloc),
-    };
-    show(alloc, reader, &mut touches, of)
-}
-
-/// What is told of the touches of a capture, and where it is written.
+/// Where somebody must have touched the panel in a capture that is judged to its first break, where it is a yes, and then the verdict. The
+/// profile has to allow hands. All is written at the end. The writer is not flushed.
 #[derive(Drop)]
-struct Touches<'a, W: Write> {
+pub struct Touches<'a, W: Write, S: MoveSearch> {
     alloc: Global,
     writer: &'a mut W,
     profile: &'a Profile,
-    touched: Touched,
+    touched: Touched<'a, S>,
 }
 
-impl<W: Write> View for Touches<'_, W> {
+impl<'a, W: Write, S: MoveSearch> Touches<'a, W, S> {
+    /// None yet, of a deck that is taken for this, to be found by this search and written there.
+    pub fn new(
+        alloc: Global,
+        writer: &'a mut W,
+        profile: &'a Profile,
+        search: &'a S,
+    ) -> Touches<'a, W, S> {
+        Touches {
+            alloc,
+            writer,
+            profile,
+            touched: Touched::new(alloc, search),
+        }
+    }
+}
+
+impl<W: Write, S: MoveSearch> View for Touches<'_, W, S> {
     fn exchange(&mut self, seen: &SeenExchange<'_>) -> Result<(), JudgeError> {
         Ok(self.touched.take(seen)?)
     }
@@ -173,7 +177,7 @@ impl<W: Write> View for Touches<'_, W> {
             let touches = self.touched.touches(self.alloc, self.profile)?;
             put_touches(&mut lines, touches.as_deref(), self.profile.rate);
         }
-        ending.put(&mut lines);
+        put_ending(&mut lines, ending);
         Ok(write_all(self.writer, lines.whole()?)?)
     }
 }

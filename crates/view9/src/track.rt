@@ -1,14 +1,14 @@
 //! The times that a deck answers, followed from one to the next.
 
-use crate::seen::SeenExchange;
 use crate::text::Text;
+use seen9::SeenExchange;
 use tc25::{Rate, TimeCode};
 
 /// A time jumps where what it moves by and what passes differ by more than this, in seconds.
 const JUMP_S: u128 = 2;
 
 /// An exchange that a line names, by its last record.
-#[derive(Clone, Copy, Debug, PartialEq, Eq)]
+#[derive(Clone, Copy, PartialEq, Eq)]
 pub struct Place {
     /// The number of the record, counted from 1.
     pub record: u32,

@@ -3,7 +3,7 @@
 
 use crate::breaks::disputed::Disputed;
 use crate::breaks::sentences::put_called;
-use crate::html::{put_clock, put_lasting};
+use crate::html::put_lasting;
 use block9::{Block, Exchange};
 use deck9::{Knowledge, ModeSet, Profile};
 use picture9::{Done, Markup, answered_of, asked_of, put_known_before, says_of};
@@ -83,8 +83,7 @@ fn first_before(at: u32, exchanges: &[Exchange]) -> u32 {
 
 /// Puts what so many replies contradict, and the head of their list.
 fn put_head(html: &mut Markup, replies: usize, disputed: Disputed) {
-    html.put_mark("<p>");
-    html.put_mark(what_contradicts(replies));
+    html.put_marks(&["<p>", what_contradicts(replies)]);
     if !disputed.is_none() {
         html.put_mark(" What they disagree on is ");
         disputed.put(html);
@@ -138,8 +137,7 @@ impl List<'_> {
         self.named
             .put_mark(if self.touching > 1 { ", " } else { "" });
         put_called(&mut self.named, Called::of(self.profile, exchange));
-        self.named.put_mark(" at ");
-        put_clock(&mut self.named, exchange.time_us);
+        self.named.put_filled(" at {h}", &[exchange.time_us]);
     }
 
     /// Puts a reply whose exchange begins with this record, where it is listed, behind what stands between it and the one before.
@@ -168,13 +166,15 @@ impl List<'_> {
 
     /// Puts what stands between a reply and the one before it.
     fn put_between(&self, html: &mut Markup, exchange: &Exchange, first: u32) {
-        html.put_mark("<p class=\"between\">");
         let more = self.taken.saturating_sub(self.most).saturating_sub(1);
         if more > 0 {
-            html.put_thousands(more as u64);
-            html.put_mark(" more replies are not listed</p>");
+            html.put_filled(
+                "<p class=\"between\">{c} more replies are not listed</p>",
+                &[more as u64],
+            );
             return;
         }
+        html.put_mark("<p class=\"between\">");
         let (before_us, before_ends) = self.before;
         put_lasting(html, exchange.time_us.saturating_sub(before_us));
         html.put_mark(" later, ");
@@ -201,22 +201,17 @@ impl List<'_> {
         html.put_piece(&self.named);
         let more = self.touching.saturating_sub(MOST_NAMED);
         if more > 0 {
-            html.put_mark(" and ");
-            html.put_thousands(more);
-            html.put_mark(" more");
+            html.put_filled(" and {c} more", &[more]);
         }
     }
 
     /// Puts a reply: its time, its records, what was asked and answered, what it says, and the bytes.
     fn put_item(&self, html: &mut Markup, exchange: &Exchange, first: u32) {
         let alloc = html.alloc();
-        html.put_mark("<span>");
-        put_clock(html, exchange.time_us);
-        html.put_mark("</span> <span class=\"soft\">records ");
-        html.put_thousands(u64::from(first));
-        html.put_mark(" to ");
-        html.put_thousands(u64::from(self.at));
-        html.put_mark("</span> <span><b>");
+        html.put_filled(
+            "<span>{h}</span> <span class=\"soft\">records {c} to {c}</span> <span><b>",
+            &[exchange.time_us, u64::from(first), u64::from(self.at)],
+        );
         html.put_made(asked_of(alloc, self.profile, exchange));
         html.put_mark(" &#8594; ");
         html.put_made(answered_of(alloc, self.profile, exchange));
@@ -237,34 +232,25 @@ impl List<'_> {
 
     /// Puts the bytes of an exchange's reply, with marks about those in which stands what is disputed.
     fn put_reply_bytes(&self, html: &mut Markup, exchange: &Exchange, reply: &Block) {
-        html.put_byte((reply.first_byte() % 256) as u8);
-        html.put_mark(" ");
-        html.put_byte(reply.code);
+        let code = u64::from(reply.code);
+        html.put_filled("{x} {x}", &[u64::from(reply.first_byte()), code]);
         for (place, byte) in reply.bytes.as_slice().iter().enumerate() {
-            let is_disputed = self.disputed.stands_in(exchange, place);
-            html.put_mark(if is_disputed {
-                " <b class=\"bad\">"
+            let form = if self.disputed.stands_in(exchange, place) {
+                " <b class=\"bad\">{x}</b>"
             } else {
-                " "
-            });
-            html.put_byte(*byte);
-            html.put_mark(if is_disputed { "</b>" } else { "" });
+                " {x}"
+            };
+            html.put_filled(form, &[u64::from(*byte)]);
         }
-        html.put_mark(" ");
-        html.put_byte(reply.checksum());
+        html.put_filled(" {x}", &[u64::from(reply.checksum())]);
     }
 }
 
 /// Puts how many records stand between two exchanges.
 fn put_records_between(html: &mut Markup, records: u32) {
-    if records == 0 {
-        html.put_mark("nothing between");
-        return;
+    match records {
+        0 => html.put_mark("nothing between"),
+        1 => html.put_mark("1 record between"),
+        _ => html.put_filled("{c} records between", &[u64::from(records)]),
     }
-    html.put_thousands(u64::from(records));
-    html.put_mark(if records == 1 {
-        " record between"
-    } else {
-        " records between"
-    });
 }

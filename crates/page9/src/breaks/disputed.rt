@@ -200,9 +200,6 @@ fn put_field(
     if !is_one {
         return before;
     }
-    html.put_mark(before);
-    html.put_mark("<b class=\"bad\">");
-    html.put_mark(name);
-    html.put_mark("</b>");
+    html.put_marks(&[before, "<b class=\"bad\">", name, "</b>"]);
     ", "
 }

@@ -1,9 +1,10 @@
 //! An entry of the list of breaks.
 
-use crate::html::{BreakId, put_clock, put_reason, put_run};
+use crate::html::{BreakId, put_reason, put_run};
 use picture9::Markup;
+use seen9::SeenBreak;
 use std::alloc::Global;
-use view9::{BreakRun, SeenBreak};
+use view9::BreakRun;
 
 /// A break or a late reply that is listed, with the equal ones that follow it in a row.
 #[derive(Drop)]
@@ -32,34 +33,30 @@ impl Listed {
 
     /// Puts the entry, with its picture where it has one. Of the first of all its parts are open.
     pub(super) fn put(&self, html: &mut Markup, picture: Option<&Markup>, is_first: bool) {
-        let open = if is_first { " open" } else { "" };
         html.put_mark("<details class=\"break\" id=\"");
         self.id.put(html);
-        html.put_mark("\"");
-        html.put_mark(open);
-        html.put_mark(">");
+        html.put_mark(if is_first { "\" open>" } else { "\">" });
         self.put_summary(html);
         self.put_why(html);
         if let Some(picture) = picture {
-            self.put_picture(html, picture, open);
+            html.put_mark(if is_first {
+                "<details open>"
+            } else {
+                "<details>"
+            });
+            self.put_picture(html, picture);
         }
         html.put_mark("</details>\n");
     }
 
-    /// Puts the number of the record.
-    fn put_record(&self, html: &mut Markup) {
-        html.put_mark("record ");
-        html.put_thousands(u64::from(self.run.first.at));
-    }
-
     /// Puts the line that always stands there.
     fn put_summary(&self, html: &mut Markup) {
-        html.put_mark("<summary><span class=\"break-line\"><span>");
-        put_clock(html, self.run.first.time_us);
-        html.put_mark("</span> <span class=\"soft\">");
-        self.put_record(html);
-        html.put_mark("</span> <span>");
-        put_reason(html, self.run.first.reason);
+        let first = &self.run.first;
+        html.put_filled(
+            "<summary><span class=\"break-line\"><span>{h}</span> <span class=\"soft\">record {c}</span> <span>",
+            &[first.time_us, u64::from(first.at)],
+        );
+        put_reason(html, first.reason);
         html.put_mark("</span> <span>");
         html.put_piece(&self.sentence);
         self.put_row(html);
@@ -90,19 +87,14 @@ impl Listed {
     }
 
     /// Puts its picture.
-    fn put_picture(&self, html: &mut Markup, picture: &Markup, open: &'static str) {
-        html.put_mark("<details");
-        html.put_mark(open);
-        html.put_mark("><summary>Picture of ");
-        self.put_record(html);
-        html.put_mark("</summary>\n<figure><figcaption>Both wires around ");
-        self.put_record(html);
-        html.put_mark(", the controller above and the deck below</figcaption>\n");
-        html.put_mark(
-            "<div class=\"wires\" tabindex=\"0\" role=\"region\" aria-label=\"Picture of ",
+    fn put_picture(&self, html: &mut Markup, picture: &Markup) {
+        let record = u64::from(self.run.first.at);
+        html.put_filled(
+            "<summary>Picture of record {c}</summary>\n\
+            <figure><figcaption>Both wires around record {c}, the controller above and the deck below</figcaption>\n\
+            <div class=\"wires\" tabindex=\"0\" role=\"region\" aria-label=\"Picture of record {c}\">\n",
+            &[record, record, record],
         );
-        self.put_record(html);
-        html.put_mark("\">\n");
         html.put_piece(picture);
         html.put_mark("\n</div></figure>\n</details>\n");
     }

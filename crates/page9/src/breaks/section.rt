@@ -26,14 +26,14 @@ impl Breaks<'_> {
     fn put_advice(&self, html: &mut Markup) {
         if self.begins_inside() {
             html.put_mark(
-                "<p><b>Suspect the tap first:</b> the capture begins inside a reply or a command, or its two wires are swapped.",
+                "<p><b>Suspect the tap first:</b> the capture begins inside a reply or a command, or its two wires are swapped. \
+                Ask again with <code>--sync</code>.</p>\n",
             );
-            html.put_mark(" Ask again with <code>--sync</code>.</p>\n");
         } else if self.reasons.is_timing() {
             html.put_mark(
-                "<p><b>Suspect the tap first:</b> only times break the rules here, and an adapter that collects bytes",
+                "<p><b>Suspect the tap first:</b> only times break the rules here, and an adapter that collects bytes \
+                gives them wrong times.</p>\n",
             );
-            html.put_mark(" gives them wrong times.</p>\n");
         }
         if self.count > 1 {
             html.put_mark("<p>");
@@ -61,15 +61,16 @@ impl Breaks<'_> {
             html.put_mark("After a late reply everything known of the deck stays known.");
             return;
         }
-        html.put_mark(
-            "The number of breaks is not the number of faults: one lost byte can break two parts. After a break",
-        );
-        html.put_mark(if late > 0 {
+        let unless = if late > 0 {
             ", unless it is a late reply,"
         } else {
             ""
-        });
-        html.put_mark(" nothing is known of the deck until it is asked again.");
+        };
+        html.put_marks(&[
+            "The number of breaks is not the number of faults: one lost byte can break two parts. After a break",
+            unless,
+            " nothing is known of the deck until it is asked again.",
+        ]);
     }
 
     /// Puts the breaks that are listed.
@@ -82,15 +83,18 @@ impl Breaks<'_> {
     /// Puts what has no lines or no picture here, and how to get it.
     fn put_unlisted(&self, html: &mut Markup, again: &Again<'_>) {
         if self.unlisted > 0 {
-            html.put_mark("<p>");
-            html.put_thousands(self.unlisted);
-            html.put_mark(" more breaks are not listed. <code>");
+            html.put_filled(
+                "<p>{c} more breaks are not listed. <code>",
+                &[self.unlisted],
+            );
             again.put(html, "why --all");
             html.put_mark("</code> lists them.</p>\n");
         }
         if self.listed.len() > MOST_PICTURES {
-            html.put_whole("<p class=\"soft\">The first ", MOST_PICTURES as u64);
-            html.put_mark(" breaks have a picture. <code>");
+            html.put_filled(
+                "<p class=\"soft\">The first {n} breaks have a picture. <code>",
+                &[MOST_PICTURES as u64],
+            );
             again.put(html, "picture --all --at RECORD");
             html.put_mark("</code> draws any other.</p>\n");
         }

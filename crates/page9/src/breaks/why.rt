@@ -37,9 +37,7 @@ pub(super) fn put_cut(html: &mut Markup, lines: &[u8], most: usize, replies: usi
         }
         if number == replies {
             let more = replies.saturating_sub(most).saturating_sub(1);
-            html.put_mark("\n... ");
-            html.put_thousands(more as u64);
-            html.put_mark(" more replies");
+            html.put_filled("\n... {c} more replies", &[more as u64]);
         }
         html.put_mark(if number > 1 { "\n" } else { "" });
         html.put_foreign(line);

@@ -1,8 +1,10 @@
 //! Small captures and what stands on their pages, by hand.
 
 use deck9::{Hands, Profile};
-use page9::{PageOf, Readings, write_page};
-use report9::{Beginning, JudgeError, Stretch};
+use page9::{Page, PageOf};
+use report9::{Beginning, Extent, JudgeError, Scope, Stretch};
+use seen9::ViewOf;
+use show9::{FewestMoves, show_explained};
 use std::alloc::Global;
 use std::process::Abort;
 use std::test::Fail;
@@ -28,14 +30,19 @@ fn page_of(alloc: Global, text: &str, stretch: Stretch) -> Result<Vec<u8>, Judge
         beginning: Beginning::FirstRecord,
         stretch,
     };
-    let readings = Readings {
-        first: text,
-        judged: text,
-        drawn: text,
-    };
     let profile = Profile::at(Rate::Fps30, Hands::None);
+    let of = ViewOf {
+        scope: Scope {
+            extent: Extent::WholeCapture,
+            beginning: Beginning::FirstRecord,
+        },
+        stretch,
+        profile: &profile,
+    };
     let mut html = Vec::new(alloc);
-    write_page(alloc, readings, &mut html, &profile, &page)?;
+    let mut shown = Page::new(alloc, text, of, &FewestMoves)?;
+    show_explained(alloc, text, &mut shown, of)?;
+    shown.write(alloc, text, &mut html, &page)?;
     Ok(html)
 }
 

@@ -1,6 +1,6 @@
 //! What a buffer hands on, to a writer that takes a byte a call.
 
-use crate::tests::programs::no_part;
+use crate::tests::makers::Idle;
 use crate::tests::same;
 use crate::tests::writers::{Narrow, took, took_to_the_end};
 use deck9::{Hands, Profile};
@@ -46,14 +46,7 @@ fn judged(alloc: Global, text: &str, report: Report, writer: Narrow) -> Option<(
         deck_text: None,
     };
     let job = Job { asked, profile };
-    let end = judge_and_flush(
-        alloc,
-        text.as_bytes(),
-        &mut out,
-        job,
-        &named,
-        &|name: &str| no_part(name),
-    );
+    let end = judge_and_flush(alloc, text.as_bytes(), &mut out, job, &named, &Idle);
     Some((end, out.into_writer()))
 }
 

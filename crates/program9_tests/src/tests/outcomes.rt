@@ -65,7 +65,7 @@ fn a_capture_that_is_not_opened_is_told_by_its_name(rt: HostRuntime) {
     ];
     for (name, why, want) in &table {
         let text = unopened(rt.alloc(), *name, *why).expect(&rt, "memory");
-        same(&rt, text.as_str(), *want, *why);
+        same(&rt, text.as_str(), *want, *name);
     }
 }
 

@@ -1,5 +1,6 @@
 //! The program from its words to its end, over readers and writers that are made here.
 
+use crate::tests::makers::Idle;
 use crate::tests::same;
 use crate::tests::writers::{Narrow, took, took_to_the_end};
 use program9::{End, Message, Outcome, Unopened, WhyUnopened, run_program};
@@ -56,11 +57,6 @@ fn no_sheet<'a>(_file: &String) -> io::Result<&'a [u8]> {
     Err(io::Error::from(io::ErrorKind::NotFound))
 }
 
-/// Parts, of which none can be made.
-pub(super) fn no_part(_name: &str) -> io::Result<Narrow> {
-    Err(io::Error::from(io::ErrorKind::NotFound))
-}
-
 /// The end of the program on these words, before this writer.
 fn end_on(rt: &HostRuntime, words: &[&str], writer: Narrow) -> (End, Narrow) {
     let words = words_of(rt.alloc(), words).map_err(|_| WordsFault::NoMemory);
@@ -69,7 +65,7 @@ fn end_on(rt: &HostRuntime, words: &[&str], writer: Narrow) -> (End, Narrow) {
         words,
         |file| no_sheet(file),
         |file| opened(file),
-        |name| no_part(name),
+        &Idle,
         writer,
     )
 }
@@ -91,7 +87,7 @@ fn there_may_be_no_words(rt: HostRuntime) {
         words,
         |file| no_sheet(file),
         |file| opened(file),
-        |name| no_part(name),
+        &Idle,
         writer,
     );
     let is_usage = matches!(&end, End::Usage(None));
@@ -102,7 +98,7 @@ fn there_may_be_no_words(rt: HostRuntime) {
         words,
         |file| no_sheet(file),
         |file| opened(file),
-        |name| no_part(name),
+        &Idle,
         writer,
     );
     same(&rt, is_told(&end, 5, Message::NoMemory), true, "no memory");
@@ -222,5 +218,20 @@ fn a_writer_that_fails(rt: HostRuntime) {
         let (end, writer) = end_on(&rt, *words, Narrow::that_fails_to_flush(rt.alloc()));
         same(&rt, is_told(&end, 4, Message::WriteFault), true, *words);
         took_to_the_end(&rt, &writer, line.as_bytes());
+    }
+}
+
+#[test]
+fn what_is_made_is_asked_of_the_maker(rt: HostRuntime) {
+    let table: [(&[&str], u8); 4] = [
+        (&["digest"], 101),
+        (&["digest", "--all", "twice.csv"], 101),
+        (&["info"], 102),
+        (&["page"], 103),
+    ];
+    for (words, status) in &table {
+        let (end, writer) = end_on(&rt, *words, Narrow::new(rt.alloc(), usize::MAX));
+        same(&rt, is_told(&end, *status, Message::Nothing), true, *words);
+        took(&rt, &writer, b"", 0, 0);
     }
 }

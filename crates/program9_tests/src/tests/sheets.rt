@@ -1,6 +1,7 @@
 //! The deck's sheet, from the words that name it to the end, over readers that are made here.
 
-use crate::tests::programs::{is_told, no_part, words_of};
+use crate::tests::makers::Idle;
+use crate::tests::programs::{is_told, words_of};
 use crate::tests::same;
 use crate::tests::writers::{Narrow, took};
 use program9::{End, Message, Outcome, Unopened, UnreadSheet, WhyUnopened, run_program};
@@ -82,7 +83,7 @@ fn end_on(rt: &HostRuntime, words: &[&str]) -> (End, Narrow) {
         words,
         |file| sheet(file),
         |file| capture(file),
-        |name| no_part(name),
+        &Idle,
         writer,
     )
 }

@@ -5,7 +5,7 @@ use deck9::Hands;
 use report9::{Beginning, Detail, Stretch, View};
 use std::alloc::{AllocError, Global};
 use tc25::Rate;
-use words9::{Asked, Drawing, Report, Task, WordsFault, read_words};
+use words9::{Asked, Drawing, Made, Report, Task, WordsFault, read_words};
 
 /// What the verdict alone asks for, each exchange with its names, and why.
 const VERDICT: View = View::Verdict;
@@ -135,7 +135,7 @@ const COMMANDS: &[(&'static [&'static str], Wanted)] = &[
     (
         &["touches", "--deck", "edit.toml", "a.csv"],
         Wanted {
-            report: Report::Touches,
+            report: Report::Made(Made::Touches),
             file: Some("a.csv"),
             hands: Hands::Allowed,
             deck: Some("edit.toml"),
@@ -197,7 +197,12 @@ const ASKED: &[(&'static [&'static str], Report, bool, bool)] = &[
     ),
     (&["run"], Report::Run, false, false),
     (&["run", "--sync"], Report::Run, true, false),
-    (&["touches", "--sync"], Report::Touches, true, false),
+    (
+        &["touches", "--sync"],
+        Report::Made(Made::Touches),
+        true,
+        false,
+    ),
     (&["why"], Report::ToBreak(View::Why), false, false),
     (
         &["why", "--quiet"],
@@ -216,7 +221,7 @@ const ASKED: &[(&'static [&'static str], Report, bool, bool)] = &[
 #[test]
 fn what_words_ask_for(rt: HostRuntime) {
     for (words, report, sync, line_buffered) in ASKED {
-        let task = task_of(rt.alloc(), *words).expect(&rt, "a task");
+        let task = task_of(rt.alloc(), *words).ok().expect(&rt, "a task");
         let beginning = if *sync {
             Beginning::FirstCommand
         } else {
@@ -260,7 +265,7 @@ const RATES: &[(&'static [&'static str], Option<&'static str>, Rate)] = &[
 #[test]
 fn words_that_name_a_rate(rt: HostRuntime) {
     for (words, file, rate) in RATES {
-        let task = task_of(rt.alloc(), *words).expect(&rt, "a task");
+        let task = task_of(rt.alloc(), *words).ok().expect(&rt, "a task");
         let found = task.file.as_ref().map(|name| name.as_str());
         same(&rt, (found, task.rate), (*file, *rate), *words);
     }

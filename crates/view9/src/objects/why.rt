@@ -4,11 +4,11 @@ use crate::field::Field;
 use crate::objects::Json;
 use crate::objects::line::Line;
 use crate::objects::told::Told;
-use crate::seen::ExplainedView;
 use block9::{Exchange, Open, Reason, records_in};
 use capture9::{LineByte, Wire};
 use deck9::Profile;
 use report9::{JudgeError, WhyNo, end_before, put_bytes, still_wanted};
+use seen9::ExplainedView;
 use std::io::Write;
 
 impl<W: Write> ExplainedView for Json<'_, W> {

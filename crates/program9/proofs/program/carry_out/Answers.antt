@@ -24,5 +24,5 @@ returns-in-Ok g c =
       ends = c.taken_back.ensures.end ∙ ap (told_after _) (c.with_header-judged.ensures ∙ ap (λ file. with_header file found c.judge_and_flush-judged.result) c.in-Ok.ensures.file);
     }
 
-pub returns : goal.returns
-returns g c = inl (c.in-Err.ensures.ends, rw c.in-Err.ensures.untouched (Keeps-refl _))
+pub returns-in-Err : goal.returns-in-Err
+returns-in-Err g c = inl (c.in-Err.ensures.ends, rw c.in-Err.ensures.untouched (Keeps-refl _))

@@ -6,23 +6,24 @@ use Rattle.words9.specs.declared.task.WordsFault.{WordsFault}
 use Rattle.words9.specs.declared.task.WordsFault.TheVariants as words
 use Rattle.words9.specs.Words.{AsksVersion, IsNoTask, MayAskVersion, joined}
 use Rattle.program9.specs.declared.ending.End.{End}
+use Rattle.program9.specs.Judging.{Promise}
 use Rattle.program9.specs.Program.{EndsWithout, EndsWords, Streams}
 use Rattle.program9.proofs.program.run_program.Goals as goal
 
 -- the end on words that give no task
-ends_words : {R S W : Type 0} (streams : Streams R S W) (given : List (List ℕ)) (out : W) (fault : WordsFault) (told : End) (now : Option (List ℕ))
+ends_words : {R S W : Type 0} (makes : Promise) (streams : Streams R S W) (given : List (List ℕ)) (out : W) (fault : WordsFault) (told : End) (now : Option (List ℕ))
     → ((o : Option ClapError) → fault ≡ words.Usage o → IsNoTask given × ¬ (AsksVersion given)) → (fault ≡ words.Version → MayAskVersion given)
-    → EndsWithout fault (streams.contents out) told now → EndsWords streams given out told now
-ends_words streams given out (words.Usage o) told now usage version (is, kept) = rw is (let none = usage o refl in (none.0, none.1, kept))
-ends_words streams given out words.Version told now usage version (outcome, is, tells) = rw is (inr (inl (version refl, tells)))
-ends_words streams given out (words.NoValue text) told now usage version (is, kept) = rw is kept
-ends_words streams given out words.NoMemory told now usage version (is, kept) = rw is (inl (refl, kept))
+    → EndsWithout fault (streams.contents out) told now → EndsWords makes streams given out told now
+ends_words makes streams given out (words.Usage o) told now usage version (is, kept) = rw is (let none = usage o refl in (none.0, none.1, kept))
+ends_words makes streams given out words.Version told now usage version (outcome, is, tells) = rw is (inr (inl (version refl, tells)))
+ends_words makes streams given out (words.NoValue text) told now usage version (is, kept) = rw is kept
+ends_words makes streams given out words.NoMemory told now usage version (is, kept) = rw is (inl (refl, kept))
 
 pub returns-in-Ok-read_words : goal.returns-in-Ok-read_words
 returns-in-Ok-read_words g c = rw c.in-Ok.is (inr (inr (c.in-Ok-read_words.task, c.in-Ok-read_words.ensures.task, c.carry_out-end.ensures)))
 
 pub returns-in-Err-read_words : goal.returns-in-Err-read_words
-returns-in-Err-read_words g c = rw c.in-Ok.is (ends_words {R = g.row.R.Denot} {S = g.row.S.Denot} {W = g.row.W.Denot}
+returns-in-Err-read_words g c = rw c.in-Ok.is (ends_words {R = g.row.R.Denot} {S = g.row.S.Denot} {W = g.row.W.Denot} g.M.Maker.makes
     (record {
       opens = FnOnceReturnsAt g.F.FnOnce c.args.opener;
       coming = g.R.Read.remaining;

@@ -1,0 +1,140 @@
+//! What is wrong with a time that is not valid, and at which frame rates it is.
+
+use report9::{put_count, put_hex, put_text};
+use std::alloc::AllocError;
+use tc25::{Rate, TimeCode};
+
+/// A time as its digits, two a byte, without the flags that may stand beside the tens.
+#[derive(Clone, Copy)]
+struct Digits {
+    hours: u8,
+    minutes: u8,
+    seconds: u8,
+    frames: u8,
+}
+
+/// Puts a line that says what is wrong with the time of these bytes at a rate, and at which rates it is valid.
+pub(crate) fn put_invalid(
+    line: &mut Vec<u8>,
+    bytes: [u8; 4],
+    rate: Rate,
+) -> Result<(), AllocError> {
+    let digits = Digits {
+        hours: bytes[3] & 0x3F,
+        minutes: bytes[2] & 0x7F,
+        seconds: bytes[1] & 0x7F,
+        frames: bytes[0] & 0x3F,
+    };
+    digits.put(line, rate)?;
+    put_text(line, " is not valid at ")?;
+    match valid_rates(bytes) {
+        0 => {
+            put_text(line, "any rate: ")?;
+            digits.put_wrong(line, rate)?;
+        }
+        count => {
+            put_rate(line, rate)?;
+            put_text(line, ": ")?;
+            digits.put_wrong(line, rate)?;
+            put_text(line, "; it is valid at ")?;
+            put_valid(line, bytes, count)?;
+        }
+    }
+    put_text(line, "\n")
+}
+
+/// At how many of the rates a time is valid.
+fn valid_rates(bytes: [u8; 4]) -> usize {
+    Rate::ALL
+        .iter()
+        .filter(|rate| is_valid(bytes, **rate))
+        .count()
+}
+
+/// Whether a time is valid at a rate.
+fn is_valid(bytes: [u8; 4], rate: Rate) -> bool {
+    TimeCode::from_bytes_at(rate, bytes).is_some()
+}
+
+/// Puts the rates at which a time is valid, of which there are so many.
+fn put_valid(line: &mut Vec<u8>, bytes: [u8; 4], count: usize) -> Result<(), AllocError> {
+    let mut left = count;
+    for rate in &Rate::ALL {
+        if !is_valid(bytes, *rate) {
+            continue;
+        }
+        if left < count {
+            put_text(line, if left == 1 { " and " } else { ", " })?;
+        }
+        put_rate(line, *rate)?;
+        left = left.saturating_sub(1);
+    }
+    Ok(())
+}
+
+/// Puts the option of a rate.
+fn put_rate(line: &mut Vec<u8>, rate: Rate) -> Result<(), AllocError> {
+    put_text(line, "--rate ")?;
+    put_text(line, rate.word())
+}
+
+impl Digits {
+    /// Puts the time as a text at a rate.
+    fn put(&self, line: &mut Vec<u8>, rate: Rate) -> Result<(), AllocError> {
+        put_hex(line, u32::from(self.hours))?;
+        put_text(line, ":")?;
+        put_hex(line, u32::from(self.minutes))?;
+        put_text(line, ":")?;
+        put_hex(line, u32::from(self.seconds))?;
+        put_text(line, if rate == Rate::DropFrame { ";" } else { ":" })?;
+        put_hex(line, u32::from(self.frames))
+    }
+
+    /// Puts what is wrong with the time, which is not valid at this rate: of its parts the first that is too great, or a label that drop
+    /// frame leaves out.
+    fn put_wrong(&self, line: &mut Vec<u8>, rate: Rate) -> Result<(), AllocError> {
+        let last = last_frame(rate);
+        if is_beyond(self.hours, 23) {
+            put_beyond(line, "hour", self.hours, 23)
+        } else if is_beyond(self.minutes, 59) {
+            put_beyond(line, "minute", self.minutes, 59)
+        } else if is_beyond(self.seconds, 59) {
+            put_beyond(line, "second", self.seconds, 59)
+        } else if is_beyond(self.frames, 29) {
+            put_beyond(line, "frame", self.frames, 29)
+        } else if is_beyond(self.frames, last) {
+            put_beyond(line, "frame", self.frames, last)
+        } else {
+            put_text(
+                line,
+                "drop frame leaves out frames 00 and 01 in second 00 of minute ",
+            )?;
+            put_hex(line, u32::from(self.minutes))
+        }
+    }
+}
+
+/// The last frame of a second.
+fn last_frame(rate: Rate) -> u8 {
+    u8::try_from(rate.in_second() - 1).unwrap_or(u8::MAX)
+}
+
+/// Whether two digits are no number up to this one.
+fn is_beyond(digits: u8, last: u8) -> bool {
+    let (tens, units) = (digits / 16, digits % 16);
+    units > 9 || u32::from(tens) * 10 + u32::from(units) > u32::from(last)
+}
+
+/// Puts why two digits are no number up to this one.
+fn put_beyond(line: &mut Vec<u8>, part: &str, digits: u8, last: u8) -> Result<(), AllocError> {
+    if digits % 16 > 9 {
+        put_text(line, "the ")?;
+        put_text(line, part)?;
+        put_text(line, " ")?;
+        put_hex(line, u32::from(digits))?;
+        return put_text(line, " has a digit that is not decimal");
+    }
+    put_text(line, "the last ")?;
+    put_text(line, part)?;
+    put_count(line, " is ", u64::from(last))
+}

@@ -1,0 +1,207 @@
+//! What is made of a capture's events, or of a text, beside the reports.
+ghost use Rattle.std.specs.Prelude.{◌≡◌, IfOk};
+ghost use Rattle.maker9.specs.Making.{IsDrawn, IsPaged};
+
+use crate::status::{outcome_drawn, outcome_made};
+use crate::trying::unkept;
+use info9::write_info;
+use judge9::judge_with_run_for;
+use page9::{Page, PageOf};
+use picture9::{Choice, Wanted, write_picture};
+use program9::{Job, Named, Outcome, read_whole, text_again, verdict_of};
+use report9::{Extent, JudgeError, Scope, Stretch, TimeForm, Verdict, View};
+use seen9::{Drawn, Ending, ViewOf};
+use show9::{FewestMoves, show, show_explained};
+use std::alloc::Global;
+use std::io::{BufReader, Read, Write};
+use view9::{ClockFault, Delays, Digest, Json, MotionText, Touches, write_clock, write_json_run};
+use words9::VERSION_LINE;
+
+/// How far the job's judging goes, and from where on.
+pub(crate) fn scope_of(job: &Job, extent: Extent) -> Scope
+    ensures { result ≡ record { extent = extent; beginning = job.now.asked.beginning } }
+{
+    Scope {
+        extent,
+        beginning: job.asked.beginning,
+    }
+}
+
+/// What a view of the job is made of, whose judging goes so far.
+pub(crate) fn view_of(job: &Job, extent: Extent) -> ViewOf<'_> {
+    ViewOf {
+        scope: scope_of(job, extent),
+        stretch: job.asked.stretch,
+        profile: &job.profile,
+    }
+}
+
+/// Judges the capture that the reader gives, and writes its digest: how the judging ends.
+#[inline(never)] // else the loops over records of the views are compiled in one function, and worse
+pub(crate) fn write_digest<R: Read + Drop, W: Write>(
+    alloc: Global,
+    reader: R,
+    writer: &mut W,
+    of: ViewOf<'_>,
+) -> Result<Ending, JudgeError> {
+    let mut digest = Digest::new(alloc, writer, of.profile);
+    show(alloc, reader, &mut digest, of)
+}
+
+/// Judges the capture that the reader gives, and writes how long the deck took to reply: how the judging ends.
+#[inline(never)] // as above
+pub(crate) fn write_delays<R: Read + Drop, W: Write>(
+    alloc: Global,
+    reader: R,
+    writer: &mut W,
+    of: ViewOf<'_>,
+) -> Result<Ending, JudgeError> {
+    let mut delays = Delays::new(alloc, writer, of.profile);
+    show(alloc, reader, &mut delays, of)
+}
+
+/// Judges the capture that the reader gives, and writes what the deck did after its commands: how the judging ends.
+#[inline(never)] // as above
+pub(crate) fn write_motion<R: Read + Drop, W: Write>(
+    alloc: Global,
+    reader: R,
+    writer: &mut W,
+    of: ViewOf<'_>,
+) -> Result<Ending, JudgeError> {
+    let mut motion = MotionText::new(alloc, writer, of.profile);
+    show(alloc, reader, &mut motion, of)
+}
+
+/// Judges the capture that the reader gives, and writes an object for each line of its report with this view: how the judging ends. To
+/// say why records break rules the exchanges of a part are kept.
+#[inline(never)] // as above
+pub(crate) fn write_json<R: Read + Drop, W: Write>(
+    alloc: Global,
+    reader: R,
+    writer: &mut W,
+    view: View,
+    of: ViewOf<'_>,
+) -> Result<Ending, JudgeError> {
+    let mut json = Json::new(alloc, writer, view, of);
+    match view {
+        View::Why => show_explained(alloc, reader, &mut json, of),
+        View::Verdict | View::Explain(_) => show(alloc, reader, &mut json, of),
+    }
+}
+
+/// Judges the capture that the reader gives to its first break, and writes its run as JSON where there is one.
+#[inline(never)] // as above
+pub(crate) fn tell_json_run<R: Read + Drop, W: Write>(
+    alloc: Global,
+    reader: R,
+    writer: &mut W,
+    job: &Job,
+) -> Result<Verdict, JudgeError> {
+    let run = judge_with_run_for(alloc, reader, job.asked.beginning, &job.profile)?;
+    write_json_run(alloc, writer, &run, &job.profile)?;
+    Ok(verdict_of(&run))
+}
+
+/// Judges the capture that the reader gives to its first break, and tells where somebody must have touched the panel: how the judging ends.
+#[inline(never)] // as above
+pub(crate) fn tell_touches<R: Read + Drop, W: Write>(
+    alloc: Global,
+    reader: R,
+    writer: &mut W,
+    job: &Job,
+) -> Result<Ending, JudgeError> {
+    let of = view_of(job, Extent::FirstBreak);
+    let mut touches = Touches::new(alloc, writer, of.profile, &FewestMoves);
+    show(alloc, reader, &mut touches, of)
+}
+
+/// Writes what the capture that the reader gives says of itself.
+#[inline(never)] // as above
+pub(crate) fn tell_info<R: Read + Drop, W: Write>(
+    alloc: Global,
+    reader: R,
+    writer: &mut W,
+    job: &Job,
+) -> Result<(), JudgeError> {
+    write_info(alloc, reader, writer, job.profile.rate, job.asked.beginning)
+}
+
+/// Writes the text that the reader gives with its times in this form.
+#[inline(never)] // as above
+pub(crate) fn rewrite_times<R: Read + Drop, W: Write>(
+    alloc: Global,
+    reader: R,
+    writer: &mut W,
+    form: TimeForm,
+) -> Result<(), ClockFault> {
+    let mut reader = BufReader::new(alloc, reader)?;
+    write_clock(alloc, &mut reader, writer, form)
+}
+
+/// Keeps the capture that the reader gives, and draws a break of it: how that ends.
+#[inline(never)] // as above
+pub(crate) fn draw<R: Read + Drop, W: Write>(
+    alloc: Global,
+    reader: R,
+    writer: &mut W,
+    scope: Scope,
+    job: &Job,
+) -> Result<Outcome, JudgeError>
+    ensures { IfOk result IsDrawn }
+{
+    let text = match read_whole(alloc, reader) {
+        Ok(text) => text,
+        Err(e) => return unkept(&e),
+    };
+    let wanted = Wanted {
+        scope,
+        profile: &job.profile,
+        width: job.asked.drawing.width,
+    };
+    let of = ViewOf {
+        scope,
+        stretch: Stretch::ALL,
+        profile: &job.profile,
+    };
+    let mut choice = Choice::new(job.asked.drawing.at);
+    let ending = show_explained(alloc, text_again::<R>(text.as_slice()), &mut choice, of)?;
+    let again = text_again::<R>(text.as_slice());
+    let drawn = match write_picture(alloc, again, writer, &choice, &wanted)? {
+        Some(why) => Drawn::Nothing(why),
+        None => Drawn::Picture(ending),
+    };
+    Ok(outcome_drawn(&drawn))
+}
+
+/// Keeps the capture that the reader gives, and makes a page of it, which says what the words name: how that ends.
+#[inline(never)] // as above
+pub(crate) fn make_page<R: Read + Drop, W: Write>(
+    alloc: Global,
+    reader: R,
+    writer: &mut W,
+    job: &Job,
+    named: &Named,
+) -> Result<Outcome, JudgeError>
+    ensures { IfOk result IsPaged }
+{
+    let text = match read_whole(alloc, reader) {
+        Ok(text) => text,
+        Err(e) => return unkept(&e),
+    };
+    let page_of = PageOf {
+        text: text.as_slice(),
+        file: named.file.as_ref().map(|file| file.as_bytes()),
+        sheet: named.sheet.as_ref().map(|sheet| sheet.as_bytes()),
+        version: VERSION_LINE.as_bytes(),
+        beginning: job.asked.beginning,
+        stretch: job.asked.stretch,
+    };
+    let of = view_of(job, Extent::WholeCapture);
+    let first = text_again::<R>(text.as_slice());
+    let judged = text_again::<R>(text.as_slice());
+    let drawn = text_again::<R>(text.as_slice());
+    let mut page = Page::new(alloc, first, of, &FewestMoves)?;
+    let ending = show_explained(alloc, judged, &mut page, of)?;
+    page.write(alloc, drawn, writer, &page_of)?;
+    Ok(outcome_made(&Ok(ending)))
+}

@@ -1,8 +1,0 @@
--- none of the answers so far is a yes
-use Rattle.std.proofs.Common.{false, take, ◌≡◌}
-use Rattle.std.specs.List.{list_any}
-use Rattle.program9.specs.Trying.{is_yes}
-use Rattle.program9.proofs.trying.lines.status_of.Given as goal
-
-abbrev pub invariant-loop-answer : goal.invariant-loop-answer
-invariant-loop-answer l = list_any (λ a. is_yes a.ended) (take l.answer-index l.answers) ≡ false

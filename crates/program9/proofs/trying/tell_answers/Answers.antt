@@ -1,5 +1,0 @@
-use Rattle.program9.proofs.Answering.{untold}
-use Rattle.program9.proofs.trying.tell_answers.Goals as goal
-
-pub returns-in-Err : goal.returns-in-Err
-returns-in-Err g c = untold c.args.answers.now (g.W.Write.contents c.args.writer.now)

@@ -1,0 +1,53 @@
+//! What makes of a capture, of a text or of an export what the program itself does not.
+
+use crate::again::Keeping;
+use crate::buffered::Buffered;
+use crate::ending::{Message, Outcome};
+use crate::judging::{Job, Named};
+use deck9::Profile;
+use report9::{Scope, View};
+use std::alloc::Global;
+use std::io::{Read, Write};
+use words9::Made;
+
+/// What was told of a capture, and so what may be asked again.
+#[derive(Drop)]
+pub struct Told {
+    /// With which view.
+    pub view: View,
+    /// How far the capture was judged, and from where on.
+    pub scope: Scope,
+    /// What the deck was taken for.
+    pub profile: Profile,
+}
+
+/// What makes the views, pictures, pages and captures that the words may ask for, and says what to ask next. The program is handed one, as
+/// it is handed what opens files, so that it knows of no view.
+pub trait Maker {
+    ghost use Rattle.std.specs.Prelude.{ℕ, List, Option};
+    ghost use Rattle.words9.specs.declared.task.Made.{Made as AMade};
+    ghost use Rattle.program9.specs.declared.ending.Outcome.{Outcome as AnOutcome};
+    ghost use Rattle.program9.specs.declared.judging.Job.{Job as AJob};
+    ghost use Rattle.program9.specs.Judging.{IsHint};
+    ghost use Rattle.program9.specs.Output.{contents_behind, held_contents};
+
+    /// What is promised of what it makes: of this, with what the job asks for and for its deck, of a capture or an export whose text is
+    /// given where it is known, before a writer that holds this; how it ends, and what the writer holds then.
+    ghost makes: { AMade → AJob → Option (List ℕ) → Option (List ℕ) → AnOutcome → Option (List ℕ) → Type 0 };
+
+    /// Makes this of what the reader gives, and hands it on to the writer behind the buffer: how it ends.
+    fn make<R: Read + Drop, W: Write + Drop>(
+        &self,
+        alloc: Global,
+        reader: R,
+        out: &mut Buffered<W>,
+        made: Made,
+        job: Job,
+        named: &Named,
+    ) -> Outcome
+        ensures { makes made job (R.remaining reader) (held_contents W.contents out.old) result (contents_behind W.contents out.new) };
+
+    /// What to ask next after a `why` that is a no, of what was read for it.
+    fn ask_next<R: Read + Drop>(&self, alloc: Global, kept: Keeping<R>, told: Told) -> Message
+        ensures { IsHint result };
+}

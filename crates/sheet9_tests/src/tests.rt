@@ -1,0 +1,5 @@
+//! Small texts and what is made of them, with values by hand.
+mod accepted_sheets;
+mod convert;
+mod info;
+mod refused_sheets;

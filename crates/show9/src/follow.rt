@@ -1,0 +1,183 @@
+//! The one loop over what a judging comes to, for every view.
+ghost use Rattle.std.specs.Prelude.{◌≡◌};
+ghost use Rattle.judge9.specs.History.{nothing_told};
+ghost use Rattle.judge9.specs.Standing.{CanGoOn, ShowsExchange, Stands};
+ghost use Rattle.judge9.specs.declared.event.Event.TheVariants as AnEvent;
+
+use block9::Reason;
+use capture9::LineByte;
+use deck9::Knowledge;
+use judge9::{Event, Judging, Kept};
+use report9::{Extent, JudgeError, Stretch};
+use seen9::{Ending, ExplainedView, SeenBreak, SeenExchange, View, ViewOf};
+use std::alloc::Global;
+use std::io::Read;
+
+/// Judges the capture that the reader gives, and shows the view what it comes to: how it ends. The records are read once, and none is
+/// kept. Errors are those of the judging, and the view's own; after one the view is told of nothing more.
+pub fn show<R: Read + Drop, V: View>(
+    alloc: Global,
+    reader: R,
+    view: &mut V,
+    of: ViewOf<'_>,
+) -> Result<Ending, JudgeError> {
+    let mut judging = Judging::new(alloc, reader, of.scope, of.profile)?;
+    let shown = show_events(&mut judging, view, of.stretch);
+    let ending = ending_of(&judging, of.scope.extent);
+    drop(judging);
+    shown?;
+    view.end(&ending)?;
+    Ok(ending)
+}
+
+/// Shows all events up to the end.
+fn show_events<R: Read + Drop, V: View>(
+    judging: &mut Judging<R>,
+    view: &mut V,
+    stretch: Stretch,
+) -> Result<(), JudgeError>
+    requires { CanGoOn judging.old.stage judging.old.feed }
+{
+    let mut known = None;
+    'events: loop {
+        match judging.next()? {
+            Event::End => return Ok(()),
+            event => known = show_event(judging, view, stretch, event, known)?,
+        }
+    }
+}
+
+/// Judges the capture that the reader gives, as [`show`] does, and also tells the view why each record breaks a rule. So the exchanges
+/// of a part are kept as long as it goes on, as far as a contradiction may need them.
+pub fn show_explained<R: Read + Drop, V: ExplainedView>(
+    alloc: Global,
+    reader: R,
+    view: &mut V,
+    of: ViewOf<'_>,
+) -> Result<Ending, JudgeError> {
+    let mut judging = Judging::new(alloc, reader, of.scope, of.profile)?;
+    let shown = explain_events(alloc, &mut judging, view, of.stretch);
+    let ending = ending_of(&judging, of.scope.extent);
+    drop(judging);
+    shown?;
+    view.end(&ending)?;
+    Ok(ending)
+}
+
+/// Shows all events up to the end, and tells why records break rules.
+fn explain_events<R: Read + Drop, V: ExplainedView>(
+    alloc: Global,
+    judging: &mut Judging<R>,
+    view: &mut V,
+    stretch: Stretch,
+) -> Result<(), JudgeError>
+    requires stands { Stands judging.old.scope judging.old.profile.now judging.old.feed.rows.rows nothing_told judging.old }
+    requires ready { CanGoOn judging.old.stage judging.old.feed }
+{
+    let mut kept = Kept::new(alloc);
+    let mut known = None;
+    'events: loop {
+        match judging.next()? {
+            Event::End => break,
+            event => {
+                let why = kept.follow(alloc, judging, event)?;
+                if let Some(why) = why {
+                    view.why(why, is_shown(event, stretch))?;
+                }
+                known = show_event(judging, view, stretch, event, known)?;
+            }
+        }
+    }
+    Ok(())
+}
+
+/// Whether a late reply or a break lies in the stretch.
+fn is_shown(event: Event, stretch: Stretch) -> bool {
+    match event {
+        Event::LateReply(first) => stretch.has(first.time_us),
+        Event::Break(broken) => stretch.has(broken.record.time_us),
+        Event::Exchange | Event::End => false,
+    }
+}
+
+/// Shows an event that is not the end: what is known of the deck from here on.
+fn show_event<R: Read + Drop, V: View>(
+    judging: &Judging<R>,
+    view: &mut V,
+    stretch: Stretch,
+    event: Event,
+    known: Option<Knowledge>,
+) -> Result<Option<Knowledge>, JudgeError>
+    requires { event ≡ AnEvent.Exchange → ShowsExchange judging.now.feed }
+{
+    match event {
+        Event::Exchange => {
+            let seen = see_exchange(judging, known, stretch);
+            view.exchange(&seen)?;
+            Ok(Some(seen.after))
+        }
+        Event::LateReply(first) => {
+            view.late(&see_break(judging, first, Reason::LateReply, stretch))?;
+            Ok(known)
+        }
+        Event::Break(broken) => {
+            view.broken(&see_break(judging, broken.record, broken.reason, stretch))?;
+            Ok(None)
+        }
+        Event::End => Ok(known),
+    }
+}
+
+/// The exchange that the judging came to.
+fn see_exchange<'e, R: Read + Drop>(
+    judging: &'e Judging<'_, R>,
+    before: Option<Knowledge>,
+    stretch: Stretch,
+) -> SeenExchange<'e>
+    requires { ShowsExchange judging.now.feed }
+{
+    let exchange = judging.exchange();
+    let last = judging.at();
+    let end_us = judging.time_us().unwrap_or(exchange.time_us);
+    SeenExchange {
+        first: last
+            .saturating_sub(exchange.records() as u32)
+            .saturating_add(1),
+        last,
+        end_us,
+        exchange,
+        before,
+        after: judging.knowledge(),
+        is_shown: stretch.has(end_us),
+    }
+}
+
+/// The break or the late reply that the judging came to with this record, by this rule.
+fn see_break<R: Read + Drop>(
+    judging: &Judging<R>,
+    record: LineByte,
+    reason: Reason,
+    stretch: Stretch,
+) -> SeenBreak {
+    let open = judging.open();
+    let delay_us = match judging.tail().get(open.asked.saturating_sub(1)) {
+        Some(last) => record.time_us.saturating_sub(last.time_us),
+        None => 0,
+    };
+    SeenBreak {
+        at: judging.at(),
+        time_us: record.time_us,
+        reason,
+        open: open.command,
+        delay_us: (reason == Reason::LateReply).then_some(delay_us),
+        is_shown: stretch.has(record.time_us),
+    }
+}
+
+/// What a judging that has ended comes to.
+fn ending_of<R: Read + Drop>(judging: &Judging<R>, extent: Extent) -> Ending {
+    match extent {
+        Extent::FirstBreak => Ending::Verdict(judging.verdict()),
+        Extent::WholeCapture => Ending::Totals(judging.totals()),
+    }
+}

@@ -1,0 +1,8 @@
+//! Judges a capture for a view: the one loop over what the judging comes to, and the search for the moves of a hand.
+#![tactic(auto)]
+
+mod fewest_moves;
+mod follow;
+
+pub use fewest_moves::FewestMoves;
+pub use follow::{show, show_explained};
