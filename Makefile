@@ -4,10 +4,11 @@
 #   make install [PREFIX=/usr/local] [DESTDIR=]    make uninstall, with the same
 #   make deb     out/ninecheck_VERSION_amd64.deb
 #   make dist    out/ninecheck-VERSION-linux-x86_64.tar.gz
-#   make check   runs every script of tests/ on the built program, and proves nothing
+#   make check   runs every script of tests/, and proves nothing: on the built program, or where none is built on one that is compiled
+#                for a trial (make/keep.sh)
 #   make audit   tries every edit of must-fail/ and audit/, which takes about an hour on four cores
 #
-# Only `make` and `make audit` prove: the others take what `make` or `.ci/run` built.
+# Only `make` and `make audit` prove: installing and packing take what `make` or `.ci/run` built.
 
 PREFIX ?= /usr/local
 DESTDIR ?=
@@ -69,7 +70,7 @@ dist: built
 	$(MAKE) --no-print-directory install DESTDIR= PREFIX=out/dist/$(PACKAGE) PAGE_PREFIX=/usr/local
 	tar -C out/dist --owner=0 --group=0 -czf out/$(PACKAGE).tar.gz $(PACKAGE)
 
-check: built
+check:
 	@make/check.sh
 
 audit:

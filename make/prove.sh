@@ -56,9 +56,29 @@ sum_of() {
     } | sha256sum
 }
 
-# prove CRATE SUM NICENESS: in a copy, and then back. The work of a run that was interrupted is taken up again.
+# How many jobs there can be at a time: one takes a processor, and at most 1.6 GB of memory.
+processors=$(nproc)
+fit=$(awk '/^MemAvailable:/ { print int($2 / 1600000) }' "${MEMINFO:-/proc/meminfo}")
+
+# jobs_for NICENESS: how many jobs a crate gets beside those that are at work. The one on which most waits gets all that are left, and half
+# of all at least; others get half of what is left. Each has one at least.
+jobs_for() {
+    local job taken=0 jobs
+    for job in "${!crate_of[@]}"; do taken=$((taken + jobs_of[$job])); done
+    jobs=$((processors - taken))
+    if [ "$1" != 0 ]; then
+        jobs=$((jobs / 2))
+    elif [ "$jobs" -lt $(((processors + 1) / 2)) ]; then
+        jobs=$(((processors + 1) / 2))
+    fi
+    [ "$jobs" -le $((fit - taken)) ] || jobs=$((fit - taken))
+    [ "$jobs" -ge 1 ] || jobs=1
+    echo "$jobs"
+}
+
+# prove CRATE SUM NICENESS JOBS: in a copy, and then back. The work of a run that was interrupted is taken up again.
 prove() {
-    local copy=$work/$1 out=crates/$1/out ask='rt lib'
+    local copy=$work/$1 out=crates/$1/out ask="rt lib --jobs $4"
     if [ -d "$copy/$out" ]; then
         rm -rf "$out"
         mv "$copy/$out" "$out"
@@ -85,7 +105,7 @@ copy_for() {
 }
 capture_for() { [ "$1" = ninecheck ] && echo crates/ninecheck/stdin || echo /dev/null; }
 
-declare -A state=() crate_of=()
+declare -A state=() crate_of=() jobs_of=()
 proved=0
 failed=
 
@@ -98,7 +118,7 @@ stands() {
 
 # begin CRATE: unless it waits for a library, or was proved before as it stands. It gives way to a crate on which more waits.
 begin() {
-    local library other niceness=0
+    local library other niceness=0 jobs
     for library in ${libraries[$1]}; do
         [ ! -d "crates/$library" ] || [ "${state[$library]-}" = proved ] || return
     done
@@ -112,8 +132,12 @@ begin() {
     done
     state[$1]=begun
     echo "$(since)  $1 begun"
-    prove "$1" "${made_from[$1]}" "$niceness" 9>&- &
+    # The program is proved by one.
+    jobs=1
+    [ "$1" = ninecheck ] || jobs=$(jobs_for "$niceness")
+    prove "$1" "${made_from[$1]}" "$niceness" "$jobs" 9>&- &
     crate_of[$!]=$1
+    jobs_of[$!]=$jobs
 }
 
 begin_all() {

@@ -1,108 +1,89 @@
 #!/usr/bin/env bash
-# Answers as the built program does, from the same code unproved: `rt try` compiles it with run-time checks and runs it. Both
-# streams and the status are the program's own, but for the first line on standard error. Status 125: there is no answer.
-# Nothing stays behind but the parts that `split` makes.
+# Answers where the program is not built: from the same code with run-time checks and without its proof, which make/keep.sh compiles
+# once and keeps. It has the caller's words, folder and streams; the first lines on standard error are this script's. Status 125: there
+# is no answer. Every other status is the program's.
 set -u
 top=$(cd "$(dirname "$0")/.." && pwd) || exit 125
-capture_limit=$((64 * 1024 * 1024))
-
-work=$(mktemp -d) || exit 125
-trap 'rm -rf "$work"' EXIT
-trap 'exit 130' INT
-trap 'exit 143' TERM HUP
+keep=$top/make/keep.sh
 
 say() { printf 'ninecheck: %s\n' "$@" >&2; }
-
-# give_up WHY [ADVICE]: says why there is no answer, and what to do.
 give_up() {
-    say "no answer: $1"
-    say "${2:-run \`make\`: it proves and builds the program, which has no such limit}"
+    say "no answer: $1" "$2"
     exit 125
 }
 
-# The trial runs in a folder of its own, so each file that the words name gets its whole path here, in `words`, and so does the NAME
-# of the parts of a split; `named` has the words as they were given. Without a file the capture is read from standard input.
-words=("$@")
-named=()
-reads_input=true
-name_files() {
-    local at word awaits='' options=true
-    for at in "${!words[@]}"; do
-        word=${words[at]}
-        [ "$at" -gt 0 ] || continue
-        case $at:${words[0]}:$word in 1:convert:* | 1:json:check | 1:json:explain | 1:json:run | 1:json:why) continue ;; esac
-        if [ -n "$awaits" ]; then
-            ! names_file "$awaits" || name_file "$at" '' "$word"
-            awaits=
-            continue
-        fi
-        case $options$word in
-            true--) options=false ;;
-            true--hands | true--sync | true--all | true--line-buffered | true--bytes | true--seconds | true--live | true--quiet) ;;
-            true--*)
-                case " $with_value " in
-                    *" $word "*) awaits=$word ;;
-                    *" ${word%%=*} "*) ! names_file "${word%%=*}" || name_file "$at" "${word%%=*}=" "${word#*=}" ;;
-                    *) reads_input=false ;;
-                esac ;;
-            true-?*) reads_input=false ;;
-            *) reads_input=false; name_file "$at" '' "$word" ;;
-        esac
-    done
+# A signal that this script gets is handed on to what runs, and once that has ended the script ends by it too.
+child=
+caught=
+hand_on() {
+    caught=$1
+    [ -z "$child" ] || kill "-$1" "$child" 2> /dev/null
 }
-with_value='--rate --deck --from --to --at --width --samplerate --controller --unit --rows'
-# names_file OPTION: whether its value is a file, or the beginning of the names of files.
-names_file() {
-    case ${words[0]}$1 in convert*) return 1 ;; *--deck | split--to) return 0 ;; esac
-    return 1
-}
-# name_file AT OPTION FILE: the word at this place has this file's whole path, behind the option.
-name_file() {
-    case $3 in '' | /*) ;; *) named+=("$3"); words[$1]=$2$PWD/$3 ;; esac
-}
-case ${1-} in
-    check | explain | run | why | digest | delays | motion | json | clock | info | try | touches | picture | page | split) name_files ;;
-    convert)
-        case ${2-} in
-            sigrok | saleae | log) name_files ;;
-            *) reads_input=false ;;
-        esac ;;
-    *) reads_input=false ;;
-esac
-
-# as_named: what is read, with each file named as it was in the words.
-as_named() {
-    local text word
-    text=$(cat; echo .)
-    for word in "${named[@]}"; do
-        text=${text//"$PWD/$word"/"$word"}
-    done
-    printf '%s' "${text%.}"
+trap 'hand_on INT' INT
+trap 'hand_on TERM' TERM
+trap 'hand_on HUP' HUP
+end_by() {
+    trap - "$1"
+    kill "-$1" $$
 }
 
-command -v rt > /dev/null || give_up "it is not built here, and \`rt\`, the command of the Rattle kit, is not on the path" \
-    "install a package that was made where the kit is (\`make deb\`, \`make dist\`): it needs neither"
-say "not built yet: this answer comes from the same code with run-time checks and without its proof; \`make\` proves and builds it"
-: > "$work/capture"
-if $reads_input; then
-    head -c $((capture_limit + 1)) > "$work/capture" 2> /dev/null || give_up "standard input can't be read"
-    [ "$(wc -c < "$work/capture")" -le "$capture_limit" ] || give_up "a capture on standard input may have 64 MiB at most"
+# run COMMAND...: leaves how it ended in $status. It runs behind the script, since a shell takes no notice of a signal before a command
+# in front of it has ended.
+run() {
+    [ -z "$caught" ] || end_by "$caught"
+    (trap - INT QUIT TERM HUP && exec "$@") <&0 &
+    child=$!
+    wait "$child" 2> /dev/null
+    status=$?
+    while kill -0 "$child" 2> /dev/null; do
+        wait "$child" 2> /dev/null
+        status=$?
+    done
+    child=
+    [ -z "$caught" ] || end_by "$caught"
+}
+
+# has_first WORD: the program `first` answers this word: each that makes nothing of a capture, and one that is none.
+has_first() {
+    case $1 in
+        digest | delays | motion | json | clock | info | try | touches | picture | page | convert | split) false ;;
+        *) [ -f "$top/make/first_maker.rattle" ] ;;
+    esac
+}
+
+# A standard input that is closed is one that has ended.
+[ -e /dev/fd/0 ] || exec < /dev/null
+# A program with run-time checks reserves more addresses than any machine has memory.
+[ "$(ulimit -v)" = unlimited ] || give_up 'it is not built here, and what is compiled for a trial does not run below a bound of `ulimit -v`' \
+    'take the bound off, or run `make`: it proves and builds the program'
+kind=whole
+program=$("$keep" path whole) || exit 125
+if [ ! -x "$program" ] && has_first "${1-}"; then
+    kind=first
+    program=$("$keep" path first) || exit 125
 fi
-(cd "$top/crates/ninecheck" && exec rt try -- "${words[@]}") < "$work/capture" > "$work/out" 2> "$work/said"
-status=$?
-last=$(tail -n 1 "$work/said")
-case $last in
-    'run=ended status='*)
-        if [ "${words[0]-}" = split ]; then as_named < "$work/out"; else cat "$work/out"; fi
-        grep -vE '^(interpreter: |checked: |run=|rt: )' "$work/said" | as_named >&2
-        exit "$status"
-        ;;
+if [ -x "$program" ]; then
+    # make/check.sh says it once.
+    [ -n "${NINECHECK_TRIAL-}" ] ||
+        say 'not built yet: this answer comes from the same code with run-time checks and without its proof; `make` proves and builds it'
+else
+    run "$keep" make "$kind" < /dev/null > /dev/null
+    [ "$status" = 0 ] || exit 125
+    # What it is made from may have changed meanwhile.
+    program=$("$keep" path "$kind") && [ -x "$program" ] || give_up 'the code was changed while it was compiled' 'ask again'
+fi
+[ "$kind" = whole ] || "$keep" behind
+
+# At most 4 GB of memory, so that a row without end is told as want of memory.
+export ASAN_OPTIONS="${ASAN_OPTIONS-soft_rss_limit_mb=4096:allocator_may_return_null=1}"
+run "$program" "$@"
+case $status in
+    129) end_by HUP ;;
+    130) end_by INT ;;
+    143) end_by TERM ;;
+    126 | 127) give_up 'the program that was kept is gone' 'ask again' ;;
+    137) give_up 'the program was killed, most likely since memory is short' 'run `make`: it proves and builds the program, which needs less' ;;
 esac
-case $(grep '^checked: ' "$work/said") in
-    *'wrote more than'*) give_up 'it has over 1 MiB' ;;
-    *'time limit'*) give_up 'it takes more than a minute' ;;
-    *)
-        cat "$work/said" >&2
-        give_up 'the trial did not end as it should'
-        ;;
-esac
+[ "$status" -le 128 ] || give_up 'a run-time check stopped the program' \
+    'the code has a fault there: where it was changed, `make` says what can not be proved'
+exit "$status"

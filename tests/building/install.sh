@@ -1,7 +1,8 @@
 #!/usr/bin/env bash
 # Installs the built program into roots of its own, whose paths have a blank, as files, as a package and as an archive, and
 # runs it there as somebody who can't read the copy of the repository that it was installed from. Has bash, zsh and fish
-# complete its words. The last line is 'N passed, M failed'.
+# complete its words. On a trial what is installed is a script that runs its program, and no package is made. The last line is
+# 'N passed, M failed'.
 set -u
 cd "$(dirname "$0")/../.." || exit 1
 . tests/lib/tools.sh
@@ -97,7 +98,14 @@ status=$?
 sed -i '/^make/d' "$work/err"
 expect 'nothing is built' 2 '' 'nothing is built yet: run make first, it proves and builds the program'
 
-cp crates/ninecheck/out/ninecheck "$copy/crates/ninecheck/out/ninecheck"
+if $on_trial; then
+    # It takes off the bound of the address space that the script sets.
+    cp "$program" "$work/on trial"
+    printf '#!/bin/sh\nulimit -S -v unlimited\nexec "%s" "$@"\n' "$work/on trial" > "$copy/crates/ninecheck/out/ninecheck"
+    chmod 755 "$work/on trial" "$copy/crates/ninecheck/out/ninecheck"
+else
+    cp "$program" "$copy/crates/ninecheck/out/ninecheck"
+fi
 
 place="$work/a place"
 root="$place/srv/a nine"
@@ -179,27 +187,30 @@ find "$place" ! -type d > "$work/out"
 status=0
 expect 'nothing is left' 0 '' ''
 
-holds 'make deb' make -C "$copy" deb
-deb="$work/a deb"
-mkdir -p "$deb/var/lib/dpkg/updates" "$deb/var/lib/dpkg/info" "$deb/var/lib/dpkg/triggers"
-: > "$deb/var/lib/dpkg/status"
-chmod 755 "$deb"
-package="$copy/out/ninecheck_$(make/version.sh)_amd64.deb"
-# The root is empty, so the C library, on which the package depends, is not in it.
-needs=$(grep -ao 'GLIBC_[0-9.]*' "$copy/crates/ninecheck/out/ninecheck" | sed 's/GLIBC_//' | sort -V | tail -n 1)
-judge 'the package names the C library that the program needs' [ "$(dpkg-deb -f "$package" Depends)" = "libc6 (>= $needs)" ]
-holds 'dpkg installs it' dpkg --root="$deb" --force-depends --log=/dev/null -i "$package"
-run_installed 'the package' "$deb/usr" /usr
-# Debian's zsh looks there by itself, and the package has it there.
-zsh -fc 'print -l $fpath' > "$work/out"
-judge "the package's folder for zsh is one of zsh's own" grep -qx /usr/share/zsh/vendor-completions "$work/out"
-offered_in_zsh "$deb/usr/share/zsh/vendor-completions" 'ninecheck r'
-expect "the package's words in zsh" 0 'run' ''
-holds 'dpkg removes it' dpkg --root="$deb" --force-depends --log=/dev/null -r ninecheck
-find "$deb" ! -type d ! -path '*/var/lib/dpkg/*' > "$work/out"
-: > "$work/err"
-status=0
-expect 'nothing of the package is left' 0 '' ''
+make_package() {
+    holds 'make deb' make -C "$copy" deb
+    deb="$work/a deb"
+    mkdir -p "$deb/var/lib/dpkg/updates" "$deb/var/lib/dpkg/info" "$deb/var/lib/dpkg/triggers"
+    : > "$deb/var/lib/dpkg/status"
+    chmod 755 "$deb"
+    package="$copy/out/ninecheck_$(make/version.sh)_amd64.deb"
+    # The root is empty, so the C library, on which the package depends, is not in it.
+    needs=$(grep -ao 'GLIBC_[0-9.]*' "$copy/crates/ninecheck/out/ninecheck" | sed 's/GLIBC_//' | sort -V | tail -n 1)
+    judge 'the package names the C library that the program needs' [ "$(dpkg-deb -f "$package" Depends)" = "libc6 (>= $needs)" ]
+    holds 'dpkg installs it' dpkg --root="$deb" --force-depends --log=/dev/null -i "$package"
+    run_installed 'the package' "$deb/usr" /usr
+    # Debian's zsh looks there by itself, and the package has it there.
+    zsh -fc 'print -l $fpath' > "$work/out"
+    judge "the package's folder for zsh is one of zsh's own" grep -qx /usr/share/zsh/vendor-completions "$work/out"
+    offered_in_zsh "$deb/usr/share/zsh/vendor-completions" 'ninecheck r'
+    expect "the package's words in zsh" 0 'run' ''
+    holds 'dpkg removes it' dpkg --root="$deb" --force-depends --log=/dev/null -r ninecheck
+    find "$deb" ! -type d ! -path '*/var/lib/dpkg/*' > "$work/out"
+    : > "$work/err"
+    status=0
+    expect 'nothing of the package is left' 0 '' ''
+}
+needs_make 'the package, which names the C library that the program needs' || make_package
 
 holds 'make dist' make -C "$copy" dist
 mkdir "$work/un packed"

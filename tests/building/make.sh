@@ -115,11 +115,35 @@ ninecheck: left right'
 echo right > "$work/told/meets-left"
 echo left > "$work/told/meets-right"
 make_tree
-(cd "$tree" && cat crates/*/out/how) > "$work/out"
+(cd "$tree" && cat crates/*/out/how) | sed 's/ --jobs [0-9]*//' > "$work/out"
 judge 'crates side by side' is_text 0 'lib left over: low
 lib low over:
 run -- check ninecheck over: left low right
 lib right over: low' ''
+
+# How many jobs each gets, by processors and memory: `left` and `right` are at work side by side, and on `left` most waits.
+# is_given PROCESSORS GIGABYTES LOW LEFT RIGHT: so many each.
+is_given() {
+    new_tree 'low:
+left: low
+right: low
+top: left
+ninecheck: right top'
+    echo right > "$work/told/meets-left"
+    echo left > "$work/told/meets-right"
+    printf '#!/bin/sh\necho %s\n' "$1" > "$work/bin/nproc"
+    chmod +x "$work/bin/nproc"
+    echo "MemAvailable: $(($2 * 1000000)) kB" > "$work/memory"
+    MEMINFO=$work/memory make_tree
+    (cd "$tree" && cat crates/{low,left,right}/out/how) | sed 's/^lib --jobs \([0-9]*\) .*/\1/' | tr '\n' ' ' > "$work/out"
+    judge "jobs of $1 processors and $2 GB" [ "$(cat "$work/out")" = "$3 $4 $5 " ]
+    rm "$work/bin/nproc"
+}
+is_given 4 24 4 4 1
+is_given 16 24 15 15 1
+is_given 8 8 5 5 1
+is_given 1 24 1 1 1
+is_given 4 1 1 1 1
 
 # Interrupted in the middle of a crate: the next run takes up what that crate's proof had come to.
 new_tree "$crates"

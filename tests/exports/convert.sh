@@ -386,19 +386,17 @@ is_soon() {
 
 # A log of 3,200,000 bytes in 64 MB of memory, in which not so many can be kept.
 long_log() {
-    awk 'BEGIN {
-        for (k = 1; k <= 200000; k++) printf "%d.000001 %s 20 01 21 22 23 24 25 26 27 28 29 2A 2B 2C 2D 2E\n", k, k % 3 ? "A" : "B"
+    local lines
+    lines=200000
+    smaller lines 12500 'lines of a long log'
+    awk -v lines="$lines" 'BEGIN {
+        for (k = 1; k <= lines; k++) printf "%d.000001 %s 20 01 21 22 23 24 25 26 27 28 29 2A 2B 2C 2D 2E\n", k, k % 3 ? "A" : "B"
     }' > "$work/in"
-    (
-        ulimit -v 65536
-        "$program" convert log --live --controller A --deck B < "$work/in" > "$work/out" 2> "$work/err"
-    )
+    bounded 65536 "$program" convert log --live --controller A --deck B < "$work/in" > "$work/out" 2> "$work/err"
     status=$?
-    judge 'a long log, live' [ "$status" = 0 -a "$(wc -l < "$work/out")" = 3200001 -a ! -s "$work/err" ]
-    (
-        ulimit -v 65536
-        "$program" convert log --controller A --deck B < "$work/in" > "$work/out" 2> "$work/err"
-    )
+    judge 'a long log, live' [ "$status" = 0 -a "$(wc -l < "$work/out")" = $((16 * lines + 1)) -a ! -s "$work/err" ]
+    ! needs_make 'a log of which too many bytes are kept' || return
+    bounded 65536 "$program" convert log --controller A --deck B < "$work/in" > "$work/out" 2> "$work/err"
     status=$?
     judge 'a long log, whose bytes are kept' is_text 5 '' "$(both_lines 'out of memory')"
 }

@@ -10,8 +10,11 @@ cd "$(dirname "$0")/../.." || exit 1
 . tests/lib/blocks.sh
 awk=${AWK:-awk}
 
-# How many captures are drawn, every second of them with hands.
+# How many captures are drawn, every second of them with hands; and how often the long ones have their exchange.
 drawn=1000
+smaller drawn 200 'drawn captures'
+many=40000
+smaller many 4000 'parts, and late replies'
 
 # is_composed FILE STATUS: the last run wrote this, said nothing, and ended with this status.
 is_composed() {
@@ -68,9 +71,9 @@ compare() {
         }' "$work/want" "$work/came"
 }
 
-# at_least LEAST FORM: that many lines of what was composed have this form.
+# at_least LEAST FORM: of a thousand captures that many lines of what was composed have this form.
 at_least() {
-    [ "$(grep -cE "$2" "$work/composed")" -ge "$1" ]
+    [ "$(grep -cE "$2" "$work/composed")" -ge $((($1 * drawn + 999) / 1000)) ]
 }
 
 draw_captures $drawn "$work" > "$work/list"
@@ -106,35 +109,29 @@ judge 'captures of two parts' at_least 50 ' of 2 parts'
 judge 'captures of five parts and more' at_least 50 ' of ([5-9]|[1-9][0-9]+) parts'
 judge 'captures of which nothing is passed over' at_least 10 'passed over 0$'
 
-# PLAY and two acknowledgements, 40,000 times: a part each, of which nothing is kept. The program has 64 MB.
-records "$second_reply" 40000 > "$work/many.csv"
-"$awk" 'BEGIN { for (k = 0; k < 40000; k++) print "no at record " 9 * k + 7 ": P1 reply without a command"
-    print "breaks 40000: records 360000, exchanges 40000, passed over 120000, open 0" }' > "$work/want"
-(
-    ulimit -v 65536
-    "$program" check --all < "$work/many.csv" > "$work/out" 2> "$work/err"
-)
+# PLAY and two acknowledgements, many times: a part each, of which nothing is kept. The program has 64 MB.
+records "$second_reply" "$many" > "$work/many.csv"
+"$awk" -v many="$many" 'BEGIN { for (k = 0; k < many; k++) print "no at record " 9 * k + 7 ": P1 reply without a command"
+    print "breaks " many ": records " 9 * many ", exchanges " many ", passed over " 3 * many ", open 0" }' > "$work/want"
+bounded 65536 "$program" check --all < "$work/many.csv" > "$work/out" 2> "$work/err"
 status=$?
-judge 'forty thousand parts' is_composed "$work/want" 1
-(
-    ulimit -v 65536
-    "$program" why --all < "$work/many.csv" > "$work/out" 2> "$work/err"
-)
+judge 'many parts' is_composed "$work/want" 1
+bounded 65536 "$program" why --all < "$work/many.csv" > "$work/out" 2> "$work/err"
 status=$?
 grep -E '^(no|breaks) ' "$work/out" > "$work/breaks"
 mv "$work/breaks" "$work/out"
-judge 'why of forty thousand parts' is_composed "$work/want" 1
+judge 'why of many parts' is_composed "$work/want" 1
 
-# PLAY and a late acknowledgement, 40,000 times: one part. To say why it breaks its exchanges are kept.
-records 'C 20 01 21 +9400 D 10 01 11' 40000 > "$work/late.csv"
-"$awk" 'BEGIN { for (k = 0; k < 40000; k++) print "no at record " 6 * k + 4 ": L1 late reply"
-    print "breaks 40000: records 240000, exchanges 40000, passed over 0, open 0" }' > "$work/want"
+# PLAY and a late acknowledgement, many times: one part. To say why it breaks its exchanges are kept.
+records 'C 20 01 21 +9400 D 10 01 11' "$many" > "$work/late.csv"
+"$awk" -v many="$many" 'BEGIN { for (k = 0; k < many; k++) print "no at record " 6 * k + 4 ": L1 late reply"
+    print "breaks " many ": records " 6 * many ", exchanges " many ", passed over 0, open 0" }' > "$work/want"
 run check --all "$work/late.csv"
-judge 'forty thousand late replies' is_composed "$work/want" 1
+judge 'many late replies' is_composed "$work/want" 1
 run why --all "$work/late.csv"
 grep -E '^(no|breaks) ' "$work/out" > "$work/breaks"
 mv "$work/breaks" "$work/out"
-judge 'why of forty thousand late replies' is_composed "$work/want" 1
+judge 'why of many late replies' is_composed "$work/want" 1
 
 # A row that can't be read, among records that are passed over and in the last part; and streams that fail. `second` breaks twice.
 second=$work/second.csv

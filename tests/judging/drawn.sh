@@ -11,6 +11,7 @@ awk=${AWK:-awk}
 
 # How many captures are drawn, every second of them with hands.
 drawn=2400
+smaller drawn 480 'drawn captures'
 
 # What the program says of each capture of the list.
 ask() {
@@ -48,17 +49,18 @@ spoil() {
     "$awk" -v how="$1" -f tests/lib/deck.awk -f tests/judging/list.awk -f tests/judging/spoiling.awk "$work/list" "$work/results" > "$work/spoilt"
 }
 
-# is_refused ALL [WORDS...]: the comparison, with these words, refuses all of the spoilt results, or none; they are ten at least.
+# is_refused ALL [WORDS...]: the comparison, with these words, refuses all of the spoilt results, or none; they are ten at least of
+# 2,400 captures.
 is_refused() {
     local all=$1 captures
     shift
     captures=$(grep -c '^capture ' "$work/spoilt")
-    [ "$captures" -ge 10 ] && compare "$work/spoilt" "$@" | grep -qx "captures $captures, refused $((all * captures))"
+    [ "$captures" -ge $((10 * drawn / 2400)) ] && compare "$work/spoilt" "$@" | grep -qx "captures $captures, refused $((all * captures))"
 }
 
-# at_least LEAST LABEL N: that many captures were drawn.
+# at_least LEAST LABEL N: of 2,400 captures that many were drawn.
 at_least() {
-    [ "$(sed -nE "s/^$2 without hands ([0-9]+), with hands ([0-9]+), .*/\\$3/p" "$work/compared")" -ge "$1" ]
+    [ "$(sed -nE "s/^$2 without hands ([0-9]+), with hands ([0-9]+), .*/\\$3/p" "$work/compared")" -ge $(($1 * drawn / 2400)) ]
 }
 
 draw_captures $drawn "$work" > "$work/list"
@@ -80,9 +82,9 @@ judge 'captures with hands that are a no' at_least 500 'no run' 2
 judge 'captures without hands that are a yes' at_least 500 yes 1
 judge 'captures with hands that are a yes' at_least 500 yes 2
 compared=$(sed -n 's/^runs of a yes without hands, compared with those with hands: //p' "$work/compared")
-judge 'captures that nobody has to touch' [ "${compared:-0}" -ge 1000 ]
+judge 'captures that nobody has to touch' [ "${compared:-0}" -ge $((1000 * drawn / 2400)) ]
 touches=$(sed -n 's/^touches compared: \([0-9]*\),.*/\1/p' "$work/compared")
-judge 'touches of a hand' [ "${touches:-0}" -ge 100 ]
+judge 'touches of a hand' [ "${touches:-0}" -ge $((100 * drawn / 2400)) ]
 
 for how in left-out added earlier shown register local says time record yes state other-run panel kept swapped; do
     spoil "$how"

@@ -1,6 +1,6 @@
 """Draws captures of traffic, damages them, cuts rows off their beginnings, and compares what the program writes of each with --sync
 with what it writes without it of the rows from the first that may begin a command, with the numbers moved: python3
-tests/judging/sync.py PROGRAM. The same captures are drawn each time. The last line is 'N passed, M failed'."""
+tests/judging/sync.py PROGRAM DRAWN, how many are drawn. The same captures are drawn each time. The last line is 'N passed, M failed'."""
 import collections
 import random
 import re
@@ -8,9 +8,8 @@ import subprocess
 import sys
 from concurrent.futures import ThreadPoolExecutor
 
-PROGRAM = sys.argv[1]
+PROGRAM, DRAWN = sys.argv[1], int(sys.argv[2])
 HEADER = 'time_us,wire,byte'
-DRAWN = 500
 BYTE_GAP = 10287
 # What is asked of each capture, and the options that are drawn for it.
 WAYS = ['check', 'explain', 'run', 'why --quiet', 'check --all', 'explain --all', 'why --quiet --all']
@@ -208,7 +207,7 @@ def what_is_seen(rows, begin, bad, told):
     yield 'no break' if not reasons else 'one break' if len(reasons) == 1 else 'several breaks'
 
 
-# How many captures must be an example of this at least.
+# Of 500 captures, how many must be an example of this at least.
 LEAST = {
     'begins after the deck': 200,
     'begins after a gap': 15,
@@ -236,7 +235,8 @@ def main():
     # What is wrong with one is often wrong with all.
     for text in shown[:20]:
         print(text)
-    for what, least in LEAST.items():
+    for what, of_500 in LEAST.items():
+        least = of_500 * DRAWN // 500
         if seen[what] >= least:
             passed += 1
         else:

@@ -399,22 +399,25 @@ for words in check run; do
 done
 
 # Nothing is kept of 300,000 records that are passed over: the program has 64 MB.
-name='a hundred thousand replies'
-records "$ack" 100000 > "$work/capture.csv"
-printf '12000%s\n' 0400,C,20 0800,C,01 1200,C,21 1600,D,10 2000,D,01 2400,D,11 2800,D,10 >> "$work/capture.csv"
+replies=100000
+smaller replies 10000 'replies that are passed over'
+name='very many replies'
+records "$ack" "$replies" > "$work/capture.csv"
+last=$((3 * replies))
+for record in C,20 C,01 C,21 D,10 D,01 D,11 D,10; do
+    last=$((last + 1))
+    echo "$((400 * last)),$record"
+done >> "$work/capture.csv"
 for verb in check run why; do
-    (
-        ulimit -v 65536
-        "$program" $verb --sync < "$work/capture.csv" > "$work/out" 2> "$work/err"
-    )
+    bounded 65536 "$program" $verb --sync < "$work/capture.csv" > "$work/out" 2> "$work/err"
     status=$?
+    no="no at record $last: P1 reply without a command"
     case $verb in
         why)
-            expect "$name: why --sync" 1 'records 300001 to 300006 at 120000400: PLAY 20 01 21 -> 10 01 11
-record 300007 at 120002800: D 10, 400 after the record before
-no at record 300007: P1 reply without a command' ''
-            ;;
-        *) expect "$name: $verb --sync" 1 'no at record 300007: P1 reply without a command' '' ;;
+            expect "$name: why --sync" 1 "records $((last - 6)) to $((last - 1)) at $((400 * (last - 6))): PLAY 20 01 21 -> 10 01 11
+record $last at $((400 * last)): D 10, 400 after the record before
+$no" '' ;;
+        *) expect "$name: $verb --sync" 1 "$no" '' ;;
     esac
 done
 
@@ -469,6 +472,8 @@ awk 'NR == 1 || NR > 8' "$work/capture.csv" > "$work/rest.csv"
 judge 'a picture of what was judged' cmp "$work/out" "$work/want"
 judge 'a picture with the command' grep -q '>PLAY<' "$work/out"
 
-judge_all 'drawn captures' python3 -B tests/judging/sync.py "$program"
+drawn=500
+smaller drawn 100 'drawn captures'
+judge_all 'drawn captures' python3 -B tests/judging/sync.py "$program" "$drawn"
 
 tell_counts

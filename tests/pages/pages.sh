@@ -7,6 +7,7 @@ cd "$(dirname "$0")/../.." || exit 1
 . tests/lib/tools.sh
 need_tools jq make
 . tests/lib/judge.sh
+. tests/lib/program.sh
 
 # The commands run in a folder that has what the repository has, so that what they write does not stay.
 mkdir "$work/here"
@@ -60,17 +61,20 @@ text;docs/OUTPUT.md;records A to B at T: COMMAND BYTES
 text;docs/OUTPUT.md;records 1067 to 1070 at 1999300:
 refuse_view;docs/VIEWS.md;nothing to draw: the verdict is a yes"
 
-# The first builds nothing here, since the program is there; tests/building/unbuilt.sh has it where it is not. The second proves, which
-# tests/building/make.sh has with a stand-in, and the third is the gate itself. The fourth installs below a root of its own.
+# The first builds nothing here, since the program is there; tests/building/unbuilt.sh has it where it is not. The second is what runs
+# this, the third proves, which tests/building/make.sh has with a stand-in, and the fourth is the gate itself. The last installs below a
+# root of its own.
 run_it() {
     in_here "${block[0]}"
     is_said "$page: ${block[0]}" 'yes: records 6, exchanges 1, open 0'
     : > "$work/want"
-    judge "$page: ${block[1]}" [ "${block[1]%% *}" = make ]
-    judge "$page: ${block[2]}" [ "${block[2]%% *}" = .ci/run ]
-    (cd "$work/here" && DESTDIR=$work/placed bash -c "${block[3]}") > "$work/out" 2>&1 < /dev/null
-    judge "$page: ${block[3]}" [ "$("$work/placed/usr/local/bin/ninecheck" --version)" = "ninecheck $(make/version.sh)" ]
-    judge "$page: no more than these" [ ${#block[@]} = 4 ]
+    judge "$page: ${block[1]}" [ "${block[1]%%  *}" = 'make check' ]
+    judge "$page: ${block[2]}" [ "${block[2]%% *}" = make ]
+    judge "$page: ${block[3]}" [ "${block[3]%% *}" = .ci/run ]
+    judge "$page: no more than these" [ ${#block[@]} = 5 ]
+    ! needs_make "${block[4]%%  *}" || return 0
+    (cd "$work/here" && DESTDIR=$work/placed bash -c "${block[4]}") > "$work/out" 2>&1 < /dev/null
+    judge "$page: ${block[4]}" [ "$("$work/placed/usr/local/bin/ninecheck" --version)" = "ninecheck $(make/version.sh)" ]
 }
 
 refuse() {

@@ -30,6 +30,7 @@ PARTS = [
     ),
     ("The events of a judging", [("judge9", "Judging::new"), ("judge9", "Judging::next"), ("judge9", "Judging::knowledge")], []),
     ("The program", [("program9", "run_program"), ("program9", "End::status"), ("program9", "Message::fmt")], []),
+    ("A capture, asked again with other terms", [("asking9", "answers_to")], []),
 ]
 PAGE = "docs/THEOREM.md"
 MARK = "<!-- What follows is written by tests/pages/reach.py --write. -->"

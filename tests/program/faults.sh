@@ -14,14 +14,16 @@ library=$work/fail_call.so
 cc -shared -fPIC -O2 -o "$library" tests/program/fail_call.c -ldl || exit 1
 
 # PLAY and its reply, 1,000 times: more than the buffer holds, where each exchange has a line.
-records "$play" 1000 > "$work/long.csv"
+many=1000
+smaller many 200 'exchanges'
+records "$play" "$many" > "$work/long.csv"
 
 # The same with two acknowledgements: a break each, and a part after it. `three.csv` has two breaks, and a part after them.
-records "$second_reply" 700 > "$work/parts.csv"
+records "$second_reply" $((7 * many / 10)) > "$work/parts.csv"
 head -n 25 "$work/parts.csv" > "$work/three.csv"
 
 # The same with acknowledgements that come late: a break each, and one part.
-records 'C 20 01 21 +9400 D 10 01 11' 1000 > "$work/late.csv"
+records 'C 20 01 21 +9400 D 10 01 11' "$many" > "$work/late.csv"
 
 # run_failing WORDS FILE CALL N HOW: the program with call N failing. Leaves its status and its streams, and in $reads and
 # $writes how often it called.

@@ -1,4 +1,5 @@
-"""Refuses growths of memory, by the preloaded library of refuse_growth.c: growths.py LIBRARY PROGRAM LIST TRACK9_TESTS BLOCK9_TESTS.
+"""Refuses growths of memory, by the preloaded library of refuse_growth.c: growths.py LIBRARY PROGRAM LIST TRACK9_TESTS BLOCK9_TESTS,
+where the last two are empty if they are not built.
 The first growth is refused, then the second, and so on until a run refuses none. The last line is 'N passed, M failed', where a test
 counts once, and so does a line of LIST, `STATUS|LINES|WORDS`."""
 import os
@@ -89,7 +90,9 @@ def try_rows(name):
 
 
 def tests_of(judge, tests, form):
-    """A task for each test of this form, of which there is one at least."""
+    """A task for each test of this form, of which there is one at least, if they are built."""
+    if not tests:
+        return []
     listed = subprocess.run([tests, '--list'], capture_output=True).stdout.decode() if os.path.exists(tests) else ''
     return [(judge, name) for name in re.findall(form, listed)] or [(lambda form: f'{tests} has no such test', form)]
 

@@ -11,6 +11,12 @@ need_tools cc=gcc python3
 . tests/lib/program.sh
 . tests/lib/blocks.sh
 
+# Run-time checks have memory of their own, which the preloaded library does not see.
+if needs_make 'growths of memory that are refused'; then
+    tell_counts
+    exit
+fi
+
 cc -shared -fPIC -O2 -o "$work/refuse_growth.so" tests/program/refuse_growth.c -ldl || exit 1
 
 # try_words STATUS WORDS...: the program with these words, which ends so. $lines is how many lines stand where the last growth is refused.
@@ -89,7 +95,13 @@ for verb in check explain why; do
     lines=
 done
 
+# tests_of CRATE: the program of its tests, where it is built.
+tests_of() {
+    local built=crates/$1/out/$1_tests
+    if [ -x "$built" ]; then echo "$PWD/$built"; else echo "needs \`.ci/run\`: growths that are refused in the tests of ${1%_tests}" >&2; fi
+}
+
 judge_all 'growths that are refused' python3 -B tests/program/growths.py "$work/refuse_growth.so" "$program" "$work/list" \
-    "${TRACK9_TESTS:-$PWD/crates/track9_tests/out/track9_tests_tests}" "${BLOCK9_TESTS:-$PWD/crates/block9_tests/out/block9_tests_tests}"
+    "${TRACK9_TESTS:-$(tests_of track9_tests)}" "${BLOCK9_TESTS:-$(tests_of block9_tests)}"
 
 tell_counts

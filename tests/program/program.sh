@@ -289,12 +289,11 @@ $work/others/play.csv: Permission denied"
 # Streams that fail.
 run_on .
 expect 'a directory as input' 4 '' "$(both_lines 'read fault at row 0')"
-(
-    ulimit -v 262144
-    exec "$program" check < /dev/zero > "$work/out" 2> "$work/err"
-)
+memory=262144
+smaller memory 24576 'kilobytes of memory for a row without end'
+bounded "$memory" "$program" check < /dev/zero > "$work/out" 2> "$work/err"
 status=$?
-expect 'a row without end' 5 '' "$(both_lines 'out of memory')"
+judge 'a row without end' is_out_of_memory
 cp examples/play.csv "$work/in"
 for verb in check run why; do
     "$program" $verb < examples/play.csv > /dev/full 2> "$work/err"
@@ -312,10 +311,12 @@ status=$?
 : > "$work/err"
 expect 'a closed standard error' 3 '' ''
 
-# A long capture through a pipe, of which nothing is kept: PLAY and its reply, 40,000 times.
-records "$play" 40000 | "$program" check > "$work/out" 2> "$work/err"
+# A long capture through a pipe, of which nothing is kept: PLAY and its reply, many times.
+long=40000
+smaller long 4000 'exchanges through a pipe'
+records "$play" "$long" | "$program" check > "$work/out" 2> "$work/err"
 status=$?
-expect 'a long pipe' 0 'yes: records 240000, exchanges 40000, open 0' ''
+expect 'a long pipe' 0 "yes: records $((6 * long)), exchanges $long, open 0" ''
 
 # The address space that the script leaves to the program: 4 GB, or less where less is left to the script.
 mkdir -p "$work/tree/crates/ninecheck/out"
@@ -332,11 +333,13 @@ for bound in '-v 8388608' '-S -v 8388608' '-v 4194304' '-v 1048576' '-S -v 10485
     [ "$want" -lt 4194304 ] || want=4194304
     expect "address space under ulimit $bound" 0 "$want" ''
 done
-(
-    ulimit -v 524288
-    exec ./ninecheck check < /dev/zero > "$work/out" 2> "$work/err"
-)
-status=$?
-expect 'a row without end, by the script' 5 '' "$(both_lines 'out of memory')"
+if ! needs_make 'a row without end, by the script'; then
+    (
+        ulimit -v 524288
+        exec ./ninecheck check < /dev/zero > "$work/out" 2> "$work/err"
+    )
+    status=$?
+    expect 'a row without end, by the script' 5 '' "$(both_lines 'out of memory')"
+fi
 
 tell_counts

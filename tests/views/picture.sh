@@ -32,12 +32,11 @@ expect 'a directory as input' 4 '' "read fault
 the text can't be read to its end"
 run picture < /dev/null
 expect 'an empty device' 3 '' "$(both_lines 'unreadable at row 0: header')"
-(
-    ulimit -v 262144
-    exec "$program" picture < /dev/zero > "$work/out" 2> "$work/err"
-)
+memory=262144
+smaller memory 24576 'kilobytes of memory for a row without end'
+bounded "$memory" "$program" picture < /dev/zero > "$work/out" 2> "$work/err"
 status=$?
-expect 'a row without end' 5 '' "$(both_lines 'out of memory')"
+judge 'a row without end' is_out_of_memory
 TMPDIR=$work/none run picture examples/late-reply.csv
 judge 'no folder for temporary files' eval '[ "$status" = 1 ] && cmp "$work/out" docs/pictures/late-reply.svg && [ ! -s "$work/err" ]'
 

@@ -141,6 +141,8 @@ done
 
 # ---- Streams.
 
+memory=262144
+smaller memory 24576 'kilobytes of memory for a row without end'
 for words in digest delays motion json 'json check' 'json run' 'json why' clock info try; do
     # shellcheck disable=SC2086
     "$program" $words examples/play.csv > /dev/full 2> "$work/err"
@@ -172,12 +174,9 @@ $work/none: No such file or directory"
     run $words examples/play.csv examples/play.csv
     judge "$words: two files" eval '[ "$status" = 2 ] && grep -qF "unexpected argument" "$work/err"'
     # shellcheck disable=SC2086
-    (
-        ulimit -v 262144
-        exec "$program" $words < /dev/zero > "$work/out" 2> "$work/err"
-    )
+    bounded "$memory" "$program" $words < /dev/zero > "$work/out" 2> "$work/err"
     status=$?
-    expect "$words: a row without end" 5 '' "$(both_lines 'out of memory')"
+    judge "$words: a row without end" is_out_of_memory
 done
 records "$play" 40000 > "$work/long.csv"
 for word in digest json; do judge_closed_pipe $word "$work/long.csv"; done
