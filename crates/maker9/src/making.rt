@@ -197,11 +197,20 @@ pub(crate) fn make_page<R: Read + Drop, W: Write>(
         stretch: job.asked.stretch,
     };
     let of = view_of(job, Extent::WholeCapture);
-    let first = text_again::<R>(text.as_slice());
-    let judged = text_again::<R>(text.as_slice());
-    let drawn = text_again::<R>(text.as_slice());
-    let mut page = Page::new(alloc, first, of, &FewestMoves)?;
-    let ending = show_explained(alloc, judged, &mut page, of)?;
-    page.write(alloc, drawn, writer, &page_of)?;
+    let ending = write_page::<R, W>(alloc, writer, of, &page_of)?;
     Ok(outcome_made(&Ok(ending)))
+}
+
+/// Judges the text of a page, which is read where a reader of this type would be, and writes the page: how the judging ends.
+fn write_page<R: Read + Drop, W: Write>(
+    alloc: Global,
+    writer: &mut W,
+    of: ViewOf<'_>,
+    page_of: &PageOf<'_>,
+) -> Result<Ending, JudgeError> {
+    let text = page_of.text;
+    let mut page = Page::new(alloc, text_again::<R>(text), of, &FewestMoves)?;
+    let ending = show_explained(alloc, text_again::<R>(text), &mut page, of)?;
+    page.write(alloc, text_again::<R>(text), writer, page_of)?;
+    Ok(ending)
 }
