@@ -253,9 +253,9 @@ fn read_record<R: Read + Drop>(
 /// memory is refused, and else `Read`.
 ///
 /// A program that reads other tables beside captures reads their rows by this too, with a reader of the same type. Then `csv` has one
-/// caller, in which it is inlined.
+/// caller, in which it is inlined. That it asks for no `Drop` keeps it one: each crate would bring a `Drop` of its own.
 #[inline(never)] // so that it stands once, and not in each loop over records
-pub fn read_fields<R: Read + Drop>(
+pub fn read_fields<R: Read>(
     reader: &mut Reader<R>,
     row: &mut ByteRecord,
 ) -> Result<bool, CaptureKind>
