@@ -57,7 +57,8 @@ has_first() {
 [ "$(ulimit -v)" = unlimited ] || give_up 'it is not built here, and what is compiled for a trial does not run below a bound of `ulimit -v`' \
     'take the bound off, or run `make`: it proves and builds the program'
 kind=whole
-program=$("$keep" path whole) || exit 125
+whole=$("$keep" path whole) || exit 125
+program=$whole
 if [ ! -x "$program" ] && has_first "${1-}"; then
     kind=first
     program=$("$keep" path first) || exit 125
@@ -72,7 +73,7 @@ else
     # What it is made from may have changed meanwhile.
     program=$("$keep" path "$kind") && [ -x "$program" ] || give_up 'the code was changed while it was compiled' 'ask again'
 fi
-[ "$kind" = whole ] || "$keep" behind
+[ "$kind" = whole ] || "$keep" behind "$whole"
 
 # At most 4 GB of memory, so that a row without end is told as want of memory.
 export ASAN_OPTIONS="${ASAN_OPTIONS-soft_rss_limit_mb=4096:allocator_may_return_null=1}"
