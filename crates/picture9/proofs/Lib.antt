@@ -1,2 +1,4 @@
 mod Escapes
+mod Filled
 mod Grouped
+mod Runs

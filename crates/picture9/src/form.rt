@@ -12,7 +12,7 @@
 //! | `p` | thousandths of a pixel, as pixels to a tenth |
 //! | `x` | a byte in two hexadecimal digits |
 //! | `h` | microseconds as hours, minutes and seconds, cut to the millisecond |
-ghost use Rattle.std.specs.Prelude.{◌≡◌, ◌++◌, false, map, OnOk};
+ghost use Rattle.std.specs.Prelude.{◌≡◌, ◌++◌, drop, false, map, OnOk};
 ghost use Rattle.picture9.specs.Form.{filled, number_by, next_number, next_text};
 
 use crate::markup::{Done, put_escaped};
@@ -22,29 +22,43 @@ use crate::numbers::{
 };
 use report9::{TextBuffer, put_count, put_hex};
 
-/// Puts a form with these numbers and texts in its places. Nothing is put where none is left.
+/// Puts a form with these numbers and texts in its places. Nothing is put where none is left. What stands outside of places is put in
+/// one piece up to the next place.
 #[tactic(auto, unfolding(crate::specs::Form::filled))]
 pub(crate) fn put_form(text: &mut Vec<u8>, form: &[u8], numbers: &[u64], texts: &[&[u8]]) -> Done
     ensures { OnOk result (text.new.items ≡ text.old.items ++ filled false form.now numbers.now (map (λ t. t.now) texts.now)) }
 {
     let mut is_inside = false;
+    let mut from = 0;
     let (mut numbers, mut texts) = (numbers, texts);
-    for byte in form {
+    for (at, byte) in form.iter().enumerate() {
         match byte {
-            b'{' => is_inside = true,
-            b'}' => is_inside = false,
-            b't' if is_inside => {
+            b'{' | b'}' => {
+                text.put(&form[from..at])?;
+                is_inside = *byte == b'{';
+                from = at + 1;
+            }
+            _ if !is_inside => {}
+            b't' => {
                 put_next_text(text, texts)?;
-                texts = texts.get(1..).unwrap_or(&[]);
+                texts = but_first(texts);
+                from = at + 1;
             }
-            letter if is_inside => {
+            letter => {
                 put_next_number(text, *letter, numbers)?;
-                numbers = numbers.get(1..).unwrap_or(&[]);
+                numbers = but_first(numbers);
+                from = at + 1;
             }
-            byte => text.put(&[*byte])?,
         }
     }
-    Ok(())
+    text.put(&form[from..])
+}
+
+/// All but the first.
+fn but_first<T>(items: &[T]) -> &[T]
+    ensures { result.now ≡ drop 1 items.now }
+{
+    items.get(1..).unwrap_or(&[])
 }
 
 /// Puts the first of these texts, escaped.

@@ -1,5 +1,5 @@
 //! The text of an SVG or of a page, written piece by piece: the program's own markup, numbers, and foreign text, which is escaped.
-ghost use Rattle.std.specs.Prelude.{◌≡◌, ◌++◌, ℕ, List, map, OnOk};
+ghost use Rattle.std.specs.Prelude.{◌≡◌, ◌++◌, ◌∷◌, [], ℕ, List, map, OnOk, MatchOption};
 ghost use Rattle.picture9.specs.Markup.{escape_of, escaped, IsEscaped, joined};
 
 use crate::form::put_form;
@@ -176,26 +176,31 @@ fn put_all(text: &mut Vec<u8>, marks: &[&'static str]) -> Done
     Ok(())
 }
 
-/// Puts foreign text, escaped.
+/// Puts foreign text, escaped. What stands between two bytes with names is put in one piece.
 pub(crate) fn put_escaped(text: &mut Vec<u8>, foreign: &[u8]) -> Done
     ensures { OnOk result (text.new.items ≡ text.old.items ++ escaped foreign.now) }
 {
-    for byte in foreign {
-        put_escape(text, *byte)?;
+    let mut from = 0;
+    for (at, byte) in foreign.iter().enumerate() {
+        if let Some(name) = name_of(*byte) {
+            text.put(&foreign[from..at])?;
+            put_text(text, name)?;
+            from = at + 1;
+        }
     }
-    Ok(())
+    text.put(&foreign[from..])
 }
 
-/// Puts a byte of foreign text.
-fn put_escape(text: &mut Vec<u8>, byte: u8) -> Done
-    ensures { OnOk result (text.new.items ≡ text.old.items ++ escape_of byte) }
+/// The name by which a byte of foreign text is written; none where it is written as it is.
+fn name_of(byte: u8) -> Option<&'static str>
+    ensures { MatchOption result (escape_of byte ≡ byte ∷ []) (λ name. escape_of byte ≡ name.now) }
 {
     match byte {
-        b'&' => put_text(text, "&amp;"),
-        b'<' => put_text(text, "&lt;"),
-        b'>' => put_text(text, "&gt;"),
-        b'"' => put_text(text, "&quot;"),
-        byte => text.put(&[byte]),
+        b'&' => Some("&amp;"),
+        b'<' => Some("&lt;"),
+        b'>' => Some("&gt;"),
+        b'"' => Some("&quot;"),
+        _ => None,
     }
 }
 
