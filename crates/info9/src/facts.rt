@@ -1,10 +1,11 @@
 //! The facts of a capture, a line each: a name, a colon and a value.
 
 use crate::signs::Signs;
-use crate::text::{put_seconds, put_tenths};
+use crate::text::put_rounded;
 use crate::wire_counts::WireCounts;
 use report9::{put_count, put_text};
 use std::alloc::AllocError;
+use text9::put_seconds;
 
 /// The milliseconds of a day.
 const DAY_MS: u64 = 86_400_000;
@@ -92,7 +93,7 @@ fn put_running(text: &mut Vec<u8>, signs: &Signs) -> Result<(), AllocError> {
     let elapsed = running.us.saturating_mul(per_day) / DAY_MS;
     put_count(text, "frames told to frames elapsed: ", running.frames)?;
     put_text(text, " to ")?;
-    put_tenths(text, elapsed)?;
+    put_rounded(text, elapsed)?;
     put_text(text, " at --rate ")?;
     put_text(text, signs.rate.word())?;
     put_count(text, ", in seconds that run: ", running.seconds)?;

@@ -2,11 +2,12 @@
 
 use crate::place::Place;
 use crate::rates::{Fitting, RateSeen};
-use crate::text::{put_fitting, put_rate_seen, put_seconds};
+use crate::text::{put_fitting, put_rate_seen};
 use block9::BYTE_TIME_US;
 use report9::{put_count, put_hex, put_text};
 use std::alloc::AllocError;
 use tc25::Rate;
+use text9::put_seconds;
 
 /// Something in a capture to look at before anybody is blamed.
 #[derive(Clone, Copy, PartialEq, Eq)]

@@ -1,34 +1,14 @@
 //! Texts that facts and signs share.
 
 use crate::rates::{Fitting, RateSeen};
-use report9::{TextBuffer, put_count, put_text};
+use report9::{put_count, put_text};
 use std::alloc::AllocError;
 use tc25::Rate;
-
-/// Puts microseconds as seconds, with six decimals.
-pub(crate) fn put_seconds(line: &mut Vec<u8>, us: u64) -> Result<(), AllocError> {
-    put_count(line, "", us / 1_000_000)?;
-    put_text(line, ".")?;
-    line.put(&[
-        digit(us / 100_000),
-        digit(us / 10_000),
-        digit(us / 1_000),
-        digit(us / 100),
-        digit(us / 10),
-        digit(us),
-    ])
-}
-
-/// The last decimal digit of a number.
-fn digit(number: u64) -> u8 {
-    b'0' + (number % 10) as u8
-}
+use text9::put_tenths;
 
 /// Puts a number of thousandths with one decimal, rounded.
-pub(crate) fn put_tenths(line: &mut Vec<u8>, thousandths: u64) -> Result<(), AllocError> {
-    let tenths = thousandths.saturating_add(50) / 100;
-    put_count(line, "", tenths / 10)?;
-    put_count(line, ".", tenths % 10)
+pub(crate) fn put_rounded(line: &mut Vec<u8>, thousandths: u64) -> Result<(), AllocError> {
+    put_tenths(line, thousandths.saturating_add(50) / 100)
 }
 
 /// Puts the rates that fit, as options.
@@ -52,7 +32,7 @@ pub(crate) fn put_rate_seen(
     match seen {
         RateSeen::Frame(frame) => put_count(line, "a time has frame ", u64::from(frame))?,
         RateSeen::Elapsed(per_second) => {
-            put_tenths(line, per_second)?;
+            put_rounded(line, per_second)?;
             put_text(line, " frames elapse in a second")?;
         }
         RateSeen::Flags(times) => put_count(line, "times with the drop frame flag: ", times)?,

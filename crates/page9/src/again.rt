@@ -1,6 +1,6 @@
 //! How a command of the program is asked again of the capture that the page shows.
 
-use picture9::Markup;
+use text9::Markup;
 
 /// What stands behind a command of the program, as a shell takes it.
 #[derive(Clone, Copy)]

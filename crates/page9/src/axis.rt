@@ -2,7 +2,7 @@
 
 use crate::html::put_padded;
 use crate::span::Span;
-use picture9::Markup;
+use text9::Markup;
 
 /// How many ticks there are at most.
 const MOST_TICKS: u64 = 11;

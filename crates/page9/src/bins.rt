@@ -1,10 +1,10 @@
 //! Traffic and the delays of replies over time, in bins that grow with the session.
 
-use crate::growing::Growing;
 use crate::html::BreakId;
 use crate::span::Window;
 use seen9::SeenExchange;
 use std::alloc::Global;
+use text9::Growing;
 
 /// The top of the delays that are drawn, in microseconds.
 pub(crate) const MOST_DRAWN_US: u64 = 14_000;

@@ -6,7 +6,7 @@ use crate::html::{BreakId, begin_chart, begin_path, put_counted, put_reason};
 use crate::session::begin_lane;
 use crate::span::Span;
 use block9::Reason;
-use picture9::Markup;
+use text9::Markup;
 
 /// How many marks a row may have.
 const CELLS: u64 = 1_000;

@@ -15,7 +15,7 @@ use capture9::LineByte;
 use contradiction::put_list;
 use deck9::Profile;
 use listed::Listed;
-use picture9::{BreakPictures, Done, Markup};
+use picture9::BreakPictures;
 pub(crate) use reasons::ReasonCount;
 use reasons::Reasons;
 use report9::{Beginning, WhyNo};
@@ -23,6 +23,7 @@ use seen9::SeenBreak;
 pub(crate) use sentences::asked_at;
 use sentences::put_sentence;
 use std::alloc::{AllocError, Global};
+use text9::{Done, Markup};
 use view9::BreakRun;
 use why::{put_why, replies_of};
 

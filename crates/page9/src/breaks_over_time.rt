@@ -1,10 +1,10 @@
 //! The breaks over time: for each reason where its breaks are.
 
-use crate::growing::Growing;
 use crate::html::BreakId;
 use crate::span::Window;
 use block9::Reason;
 use std::alloc::Global;
+use text9::Growing;
 
 /// How many breaks of one reason are marked one by one, with links.
 pub(crate) const MOST_LINKS: u32 = 300;

@@ -7,8 +7,8 @@ use crate::session::{begin_lane, begin_lane_chart};
 use crate::span::{Span, Window};
 use crate::traffic::{Traffic, put_rate, round_above};
 use block9::REPLY_LIMIT_US;
-use picture9::{Done, Markup};
 use std::alloc::{AllocError, Global};
+use text9::{Done, Markup};
 
 /// How tall the chart of traffic is, in pixels.
 const TRAFFIC_TALL: u64 = 56;

@@ -2,11 +2,10 @@
 
 use crate::page::PageOf;
 use deck9::{Hands, Profile};
-use picture9::Done;
 use report9::{Beginning, Stretch, TextBuffer, put_text};
 use std::alloc::{AllocError, Global};
 use tc25::Rate;
-use view9::put_seconds;
+use text9::{Done, put_seconds};
 
 /// The words behind a command of the program.
 #[derive(Drop)]

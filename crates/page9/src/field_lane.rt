@@ -5,8 +5,8 @@ use crate::html::{begin_path, end_path};
 use crate::runs::Run;
 use crate::session::{begin_lane, begin_lane_chart};
 use crate::span::Span;
-use picture9::Markup;
 use tc25::Rate;
+use text9::Markup;
 use view9::Field;
 
 /// The width of a chart, in hundredths of its thousandths.

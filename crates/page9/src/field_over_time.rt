@@ -1,10 +1,10 @@
 //! A field of what is known of the deck over time, as runs: how long it was known to be what it was.
 
 use crate::field_lane::is_audio;
-use crate::growing::Growing;
 use crate::runs::Runs;
 use crate::span::Window;
 use std::alloc::Global;
+use text9::Growing;
 use view9::{Field, Value};
 
 /// How many cuts between two times are drawn. Where there are more times, nothing would be left between the cuts.

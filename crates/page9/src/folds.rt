@@ -4,10 +4,9 @@
 //! folds begin as minutes, and as soon as the session has become too long for them those so far are merged to wider ones. A line that
 //! counts queries at the end of a minute then stays inside the wider fold.
 
-use crate::growing::Growing;
 use crate::html::{put_counted, put_hours_and_minutes, put_rest};
-use picture9::{Done, Markup};
 use std::alloc::{AllocError, Global};
+use text9::{Done, Growing, Markup};
 
 /// How many lines of a fold are kept.
 const MOST_OF_FOLD: u64 = 200;

@@ -10,10 +10,10 @@ use crate::span::Window;
 use crate::touches::Touches;
 use block9::Reason;
 use deck9::Profile;
-use picture9::Done;
 use report9::{JudgeError, Totals, WhyNo};
 use seen9::{Ending, ExplainedView, MoveSearch, SeenBreak, SeenExchange, View, ViewOf};
 use std::alloc::Global;
+use text9::Done;
 use view9::Strength;
 
 /// What the sections of the page have so far.

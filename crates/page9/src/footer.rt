@@ -4,8 +4,8 @@ use crate::again::Again;
 use crate::cksum::checksum;
 use crate::html::put_counted;
 use crate::page::PageOf;
-use picture9::{Done, Markup};
 use report9::{Totals, put_totals_line};
+use text9::{Done, Markup};
 
 /// Puts it.
 pub(crate) fn put_footer(

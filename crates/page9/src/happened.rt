@@ -6,11 +6,11 @@ use crate::html::{
 };
 use block9::Reason;
 use deck9::Profile;
-use picture9::{Done, Markup};
 use report9::{put_command, put_reply};
 use seen9::{SeenBreak, SeenExchange};
 use std::alloc::{AllocError, Global};
-use view9::{BreakRun, Change, Changes, FIELDS, Field, Tally, Text, Value, put_changes};
+use text9::{Done, Markup, Text};
+use view9::{BreakRun, Change, Changes, FIELDS, Field, Tally, Value, put_changes};
 
 /// What happened in a session.
 #[derive(Drop)]

@@ -7,9 +7,9 @@ use crate::span::Span;
 use crate::style::put_style;
 use deck9::{Hands, Profile};
 use info9::Sign;
-use picture9::Markup;
 use report9::{Beginning, Totals};
 use tc25::Rate;
+use text9::Markup;
 use view9::{Field, Strength};
 
 /// What the head tells of the capture.

@@ -1,7 +1,7 @@
 //! The pieces that the sections of the page share: numbers, times, links and the heads of tables.
 
 use block9::Reason;
-use picture9::Markup;
+use text9::Markup;
 use view9::BreakRun;
 
 /// Puts a number with its noun.

@@ -2,8 +2,8 @@
 
 use crate::html::{begin_chart, put_note, put_rest};
 use crate::table::put_table_head;
-use picture9::{Done, Markup};
-use view9::{Field, Strength, Text};
+use text9::{Done, Markup, Text};
+use view9::{Field, Strength};
 
 /// How many commands are listed after which a field was known no more. The others are counted.
 const MOST_LISTED: usize = 40;

@@ -21,7 +21,6 @@ mod field_over_time;
 mod folds;
 mod following;
 mod footer;
-mod growing;
 mod happened;
 mod head;
 mod html;

@@ -3,9 +3,9 @@
 use crate::html::{begin_line, end_line, put_counted, put_note, put_rest};
 use crate::table::put_table_head;
 use deck9::Profile;
-use picture9::{Done, Markup};
 use seen9::SeenExchange;
 use std::alloc::{AllocError, Global};
+use text9::{Done, Markup};
 use view9::{Called, Motion, MotionLine, Outcome};
 
 /// How many lines are listed of commands, and how many that are worth looking at. The others are counted.

@@ -4,7 +4,7 @@ use crate::mode_over_time::{CELLS, Cell, ModeOverTime, ROWS};
 use crate::session::{begin_lane, begin_lane_chart};
 use crate::span::Span;
 use deck9::Mode;
-use picture9::{Done, Markup};
+use text9::{Done, Markup};
 
 /// How tall a row is, in pixels.
 const ROW_TALL: u64 = 12;

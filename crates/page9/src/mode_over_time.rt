@@ -1,10 +1,9 @@
 //! Which mode the deck was in over time, in cells that grow with the session.
 
-use crate::growing::Growing;
 use crate::span::Window;
 use deck9::Mode;
-use picture9::Done;
 use std::alloc::{AllocError, Global};
+use text9::{Done, Growing};
 
 /// How many modes there are.
 const MODES: usize = 10;

@@ -11,11 +11,11 @@ use crate::span::{Span, Window};
 use capture9::{CaptureError, GREATEST_LIMIT, Records};
 use deck9::Profile;
 use info9::{Sign, Signs};
-use picture9::{Done, Markup};
 use report9::{Beginning, JudgeError, Stretch, WhyNo, write_all};
 use seen9::{Ending, ExplainedView, MoveSearch, SeenBreak, SeenExchange, View, ViewOf};
 use std::alloc::Global;
 use std::io::{Read, Write};
+use text9::{Done, Markup};
 
 /// What a page is made of, beside the judging.
 #[derive(Clone, Copy)]

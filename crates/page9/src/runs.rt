@@ -1,7 +1,7 @@
 //! Stretches of time, as many as can be told apart in the picture of a session that grows.
 
-use crate::growing::Growing;
 use std::alloc::Global;
+use text9::Growing;
 
 /// How many runs may be kept before those that lie close by are joined.
 const MANY: usize = 10_000;

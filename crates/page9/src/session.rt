@@ -9,17 +9,16 @@ use crate::breaks_over_time::BreaksOverTime;
 use crate::charts::{put_delay_lane, put_traffic};
 use crate::field_lane::{is_audio, lane_name, put_lane};
 use crate::field_over_time::FieldOverTime;
-use crate::growing::Growing;
 use crate::html::{begin_chart, begin_path, end_path, put_note};
 use crate::mode_lane::put_modes;
 use crate::mode_over_time::ModeOverTime;
 use crate::span::{Span, Window};
 use crate::touches::Touches;
 use deck9::{Hands, Known, Mode, Profile};
-use picture9::{Done, Markup};
 use seen9::{MoveSearch, SeenExchange};
 use std::alloc::{AllocError, Global};
 use tc25::Rate;
+use text9::{Done, Growing, Markup};
 use view9::{Field, Value};
 
 /// For how long a shown mode is taken to be shown, in microseconds, where no other status comes.

@@ -1,6 +1,6 @@
 //! How the page looks. Each colour has one meaning and a name.
 
-use picture9::Markup;
+use text9::Markup;
 
 /// The colours, light and dark. Only what breaks a rule is red.
 const COLOURS: &str = "\

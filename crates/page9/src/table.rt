@@ -1,6 +1,6 @@
 //! The tables of numbers.
 
-use picture9::Markup;
+use text9::Markup;
 
 /// Puts the head of a table: its columns, parted by bars. The second one is a picture where the table has one.
 pub(crate) fn put_table_head(html: &mut Markup, names: &'static str, has_picture: bool) {

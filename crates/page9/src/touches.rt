@@ -5,11 +5,11 @@ use crate::html::{begin_line, end_line, put_counted, put_note};
 use crate::session::begin_lane;
 use crate::span::{Span, Window};
 use deck9::{Hands, Profile};
-use picture9::Markup;
 use report9::Stretch;
 use seen9::{MoveSearch, SeenExchange};
 use std::alloc::{AllocError, Global};
-use view9::{Text, Touch, Touched};
+use text9::{Markup, Text};
+use view9::{Touch, Touched};
 
 /// How many touches are listed. The others are counted.
 const MOST_LISTED: usize = 300;

@@ -1,7 +1,7 @@
 //! How many exchanges there are a second, as numbers that stand beside a chart.
 
 use crate::html::put_padded;
-use picture9::Markup;
+use text9::Markup;
 
 /// Exchanges in 10^9 seconds.
 pub(crate) type Traffic = u128;

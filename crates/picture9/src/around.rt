@@ -3,9 +3,8 @@ ghost use Rattle.std.specs.Prelude.{◌≤◌};
 
 use crate::layout::Layout;
 use crate::look::Look;
-use crate::markup::{Done, Markup};
+use crate::measure::{text_width, width_of};
 use crate::names::put_block_name;
-use crate::numbers::{milliseconds, put_px, text_width, width_of};
 use crate::shapes::{
     BOX_TALL, MARGIN, Standing, begin_text, draw_arrow, draw_box, draw_bracket, draw_line,
     draw_middle, draw_slashes, draw_span, draw_text, end_text,
@@ -17,6 +16,7 @@ use block9::BYTE_TIME_US;
 use capture9::Wire;
 use report9::put_text;
 use std::alloc::AllocError;
+use text9::{Done, Markup, milliseconds, put_px};
 
 /// How tall the picture is.
 pub(crate) const TALL: u64 = 364;

@@ -4,13 +4,13 @@
 use crate::around::{TALL, draw_around};
 use crate::choice::PartEnd;
 use crate::layout::lay_out;
-use crate::markup::{Done, Markup};
-use crate::numbers::PIXEL;
+use crate::measure::PIXEL;
 use crate::reading::{Asked, RECORDS_AFTER, RECORDS_BEFORE, Reading};
 use block9::Reason;
 use capture9::LineByte;
 use report9::{Beginning, put_no_line};
 use std::alloc::{AllocError, Global};
+use text9::{Done, Markup};
 
 /// How many breaks are drawn: the first.
 pub const MOST_PICTURES: usize = 100;

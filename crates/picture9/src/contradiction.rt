@@ -3,8 +3,7 @@
 use crate::exchange_row::ExchangeRow;
 use crate::layout::LEAST_WIDE;
 use crate::look::Look;
-use crate::markup::{Done, Markup};
-use crate::numbers::{PIXEL, put_long_time, put_milliseconds, text_width};
+use crate::measure::{PIXEL, text_width};
 use crate::shapes::{
     BOX_TALL, BOX_WIDE, MARGIN, Standing, begin_text, draw_arrow, draw_box, draw_line,
     draw_slashes, draw_text, end_text,
@@ -12,6 +11,7 @@ use crate::shapes::{
 use deck9::{Knowledge, ModeSet, Profile};
 use report9::{put_count, put_modes, put_text, put_word};
 use std::alloc::{AllocError, Global};
+use text9::{Done, Markup, put_long_time, put_milliseconds};
 use view9::Field;
 
 /// Where the rows begin, from above.

@@ -1,6 +1,5 @@
 //! The replies that contradict one another, as rows: what is written of each, and its records.
 
-use crate::markup::Done;
 use crate::names::put_reply_name;
 use block9::Exchange;
 use capture9::{GREATEST_LIMIT, LineByte, Records};
@@ -12,6 +11,7 @@ use report9::{
 use std::alloc::{AllocError, Global};
 use std::io::Read;
 use tc25::{Rate, TimeCode};
+use text9::Done;
 use view9::Called;
 
 /// An exchange, as a row has it.

@@ -1,7 +1,7 @@
 //! Which of the records around a break are drawn, and where.
 
 use crate::blocks::Seen;
-use crate::numbers::{PIXEL, width_of};
+use crate::measure::{PIXEL, width_of};
 use crate::reading::Asked;
 use crate::shapes::MARGIN;
 use crate::spot::{Spot, place_records};

@@ -1,5 +1,7 @@
 //! How what is drawn looks: attributes, each with a blank before it.
 
+use text9::Style;
+
 /// How a line, a text or a shape looks.
 #[derive(Clone, Copy)]
 pub(crate) enum Look {
@@ -26,15 +28,6 @@ pub(crate) enum Look {
     Time,
     Wire,
     WireLetter,
-}
-
-/// What gives a picture its colours.
-#[derive(Clone, Copy, PartialEq, Eq)]
-pub(crate) enum Style {
-    /// Its own attributes.
-    Own,
-    /// The style of the page in which it stands: its attributes are classes.
-    Page,
 }
 
 impl Look {

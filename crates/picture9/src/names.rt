@@ -1,11 +1,11 @@
 //! What a block is called: by its first two bytes.
 
-use crate::markup::Done;
 use arrayvec::ArrayVec;
 use block9::{Block, Command};
 use capture9::Wire;
 use report9::{put_head, put_text};
 use tc25::Rate;
+use text9::Done;
 
 /// Puts the name of a block on this wire that begins with these two bytes: a command's or a reply's, or the bytes where it has none.
 pub(crate) fn put_block_name(text: &mut Vec<u8>, wire: Wire, first: u8, code: u8) -> Done {

@@ -6,7 +6,6 @@ use crate::contradiction::{Columns, draw_rows, known_line};
 use crate::exchange_row::rows_of;
 use crate::layout::lay_out;
 use crate::look::Look;
-use crate::markup::{Done, Markup};
 use crate::reading::{Asked, read_around};
 use crate::sentence::put_sentence;
 use crate::shapes::{MARGIN, draw_text};
@@ -16,6 +15,7 @@ use report9::{Extent, JudgeError, Scope, WhyNo, put_no_line, write_all};
 use seen9::WhyNothing;
 use std::alloc::Global;
 use std::io::{Read, Write};
+use text9::{Done, Markup};
 
 /// What is asked of a picture.
 #[derive(Clone, Copy)]

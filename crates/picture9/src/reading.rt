@@ -2,12 +2,12 @@
 
 use crate::blocks::{Blocks, Seen};
 use crate::choice::PartEnd;
-use crate::markup::Done;
 use block9::{begins_next_part, may_begin};
 use capture9::{GREATEST_LIMIT, LineByte, Records};
 use report9::{Beginning, JudgeError};
 use std::alloc::{AllocError, Global};
 use std::io::Read;
+use text9::Done;
 
 /// How many records before the one that breaks may be drawn.
 pub(crate) const RECORDS_BEFORE: u32 = 240;

@@ -1,8 +1,8 @@
 //! What a break says, in a sentence.
 
-use crate::markup::Done;
 use block9::Reason;
 use report9::{put_hex, put_text};
+use text9::Done;
 
 /// Puts the sentence of a reason. The block's earlier bytes have this sum, and the byte that breaks is the last.
 pub(crate) fn put_sentence(text: &mut Vec<u8>, reason: Reason, sum: u8, byte: u8) -> Done {

@@ -2,10 +2,10 @@
 //! those from above in pixels.
 
 use crate::look::Look;
-use crate::markup::Markup;
-use crate::numbers::{MICROSECOND, PIXEL};
+use crate::measure::{MICROSECOND, PIXEL};
 use block9::BYTE_TIME_US;
 use capture9::LineByte;
+use text9::Markup;
 
 /// How wide the box of a byte is.
 pub(crate) const BOX_WIDE: u64 = BYTE_TIME_US * MICROSECOND;

@@ -1,7 +1,7 @@
 //! The place of each record from the left.
 
 use crate::blocks::Seen;
-use crate::numbers::{PIXEL, width_of};
+use crate::measure::{PIXEL, width_of};
 use crate::shapes::BOX_WIDE;
 use capture9::Wire;
 use std::alloc::{AllocError, Global};

@@ -1,6 +1,6 @@
 //! Rows in which texts lie side by side.
 
-use crate::numbers::{PIXEL, text_width};
+use crate::measure::{PIXEL, text_width};
 use crate::shapes::MARGIN;
 use arrayvec::ArrayVec;
 

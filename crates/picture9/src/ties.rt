@@ -4,10 +4,10 @@ ghost use Rattle.std.specs.Prelude.{◌≤◌};
 use crate::around::top_of;
 use crate::layout::Layout;
 use crate::look::Look;
-use crate::markup::Markup;
 use crate::shapes::{BOX_TALL, draw_line};
 use crate::spot::Spot;
 use capture9::Wire;
+use text9::Markup;
 
 /// Draws the lines of both wires, and answers whether there is one.
 pub(crate) fn draw_ties(svg: &mut Markup, layout: &Layout) -> bool {

@@ -1,8 +1,8 @@
 //! Equal breaks in a row, which are told in one line.
 
-use crate::text::Text;
 use report9::put_no_line;
 use seen9::SeenBreak;
+use text9::Text;
 
 /// Breaks in a row of one rule, with the same command open, where an exchange or a late reply comes between no two of them.
 #[derive(Clone, Copy)]

@@ -1,11 +1,11 @@
 //! What an exchange changes of what is known of the deck.
 
 use crate::field::{FIELDS, Field, Value};
-use crate::text::Text;
 use deck9::Hands;
 use seen9::SeenExchange;
 use std::alloc::{AllocError, Global};
 use tc25::Rate;
+use text9::Text;
 
 /// A field of which something else is known than before.
 #[derive(Clone, Copy, PartialEq, Eq)]

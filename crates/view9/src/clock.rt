@@ -1,10 +1,10 @@
 //! The times of a report as a clock or in seconds, so that a record can be found again in the log or in the analyser that the capture
 //! came from. It takes any text.
 
-use crate::text::Text;
 use report9::{TimeForm, WriteFault, write_all};
 use std::alloc::{AllocError, Global};
 use std::io::{self, BufRead, ErrorKind, Write};
+use text9::Text;
 
 /// Why a text was not written to its end.
 #[derive(Clone, Copy, PartialEq, Eq)]

@@ -3,7 +3,6 @@
 use crate::called::Called;
 use crate::delay_counts::DelayCounts;
 use crate::put_ending::put_ending;
-use crate::text::Text;
 use block9::{Exchange, REPLY_LIMIT_US};
 use deck9::Profile;
 use indexmap::IndexMap;
@@ -11,6 +10,7 @@ use report9::{JudgeError, write_all};
 use seen9::{Ending, SeenBreak, SeenExchange, View};
 use std::alloc::{AllocError, Global};
 use std::io::Write;
+use text9::Text;
 
 /// How many microseconds a bar of the histogram is for.
 const BAR_US: u64 = 500;

@@ -5,13 +5,13 @@ use crate::changes::{Changes, put_changes};
 use crate::put_ending::put_ending;
 use crate::strength::Strength;
 use crate::tally::Tally;
-use crate::text::Text;
 use crate::track::Place;
 use deck9::Profile;
 use report9::{JudgeError, put_command, put_no_line, put_reply, write_all};
 use seen9::{Ending, SeenBreak, SeenExchange, View};
 use std::alloc::Global;
 use std::io::Write;
+use text9::Text;
 
 /// The digest of a capture, as far as it is written. Each line is written as soon as it is known. The writer is not flushed.
 #[derive(Drop)]

@@ -4,7 +4,6 @@
 //! A late reply ends no part, and so no command's line.
 
 use crate::called::Called;
-use crate::text::Text;
 use crate::track::{Answer, Place, take_answer};
 use crate::transport::{Followed, Transport, Way};
 use crate::worth::Showing;
@@ -13,6 +12,7 @@ use deck9::{Known, ModeSet, Profile, Status};
 use indexmap::IndexMap;
 use seen9::SeenExchange;
 use std::alloc::{AllocError, Global};
+use text9::Text;
 
 /// A line that tells a deck's motion.
 #[derive(Drop)]

@@ -3,12 +3,12 @@
 use crate::called::Called;
 use crate::motion::{Motion, MotionLine, Outcome};
 use crate::put_ending::put_ending;
-use crate::text::Text;
 use deck9::Profile;
 use report9::{JudgeError, write_all};
 use seen9::{Ending, SeenBreak, SeenExchange, View};
 use std::alloc::{AllocError, Global};
 use std::io::Write;
+use text9::Text;
 
 /// The first line.
 const TITLE: &str =

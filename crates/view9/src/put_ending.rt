@@ -1,8 +1,8 @@
 //! The line of what a judging comes to in the end.
 
-use crate::text::Text;
 use report9::{put_totals_line, put_verdict_line};
 use seen9::Ending;
+use text9::Text;
 
 /// Puts its line.
 pub(crate) fn put_ending(line: &mut Text, ending: &Ending) {

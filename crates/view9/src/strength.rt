@@ -2,12 +2,12 @@
 
 use crate::called::Called;
 use crate::field::{FIELDS, Field, Value};
-use crate::text::Text;
 use block9::{Command, Exchange};
 use deck9::Profile;
 use indexmap::IndexMap;
 use seen9::SeenExchange;
 use std::alloc::{AllocError, Global};
+use text9::Text;
 
 /// At how many exchanges each field was known, and after which commands it was known no more. A count stays at its greatest once
 /// that is reached.
@@ -162,7 +162,7 @@ fn is_preset(exchange: &Exchange) -> bool {
 
 /// Puts tenths of a per cent as a percentage.
 fn put_share(line: &mut Text, tenths: u64) {
-    line.put_fixed(tenths, 1).put(" %");
+    line.put_tenths(tenths).put(" %");
 }
 
 /// Puts how often each field was known no more after a command, with no end of a line.

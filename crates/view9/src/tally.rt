@@ -1,13 +1,13 @@
 //! The queries that are counted and not told.
 
 use crate::called::Called;
-use crate::text::Text;
 use bitflags::Flags;
 use block9::{Exchange, NakBits};
 use deck9::Profile;
 use indexmap::IndexMap;
 use report9::put_nak;
 use std::alloc::{AllocError, Global};
+use text9::Text;
 
 /// A query, as far as one is told from another: those that the deck refused are apart, with its reasons.
 #[derive(Clone, Copy, PartialEq, Eq, Hash)]

@@ -3,7 +3,6 @@
 use crate::changes::Change;
 use crate::field::Field;
 use crate::put_ending::put_ending;
-use crate::text::Text;
 use block9::Exchange;
 use deck9::{HandMove, Profile, State};
 use report9::{JudgeError, Verdict, known_state, write_all};
@@ -11,6 +10,7 @@ use seen9::{Ending, MoveSearch, SeenExchange, View};
 use std::alloc::{AllocError, Global};
 use std::io::Write;
 use tc25::Rate;
+use text9::Text;
 
 /// A touch of the panel: it comes between two exchanges.
 #[derive(Clone, Copy, PartialEq, Eq)]

@@ -1,8 +1,8 @@
 //! The times that a deck answers, followed from one to the next.
 
-use crate::text::Text;
 use seen9::SeenExchange;
 use tc25::{Rate, TimeCode};
+use text9::Text;
 
 /// A time jumps where what it moves by and what passes differ by more than this, in seconds.
 const JUMP_S: u128 = 2;
@@ -181,7 +181,7 @@ impl Track {
             .put(if frames == 1 { " frame" } else { " frames" })
             .put_seconds(" in ", self.elapsed_us())
             .put(if is_back { " s, -" } else { " s, " })
-            .put_fixed(hundredths, 2)
+            .put_hundredths(hundredths)
             .put(" of real time");
     }
 

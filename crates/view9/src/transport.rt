@@ -1,12 +1,12 @@
 //! Transport commands: what each asks for, and what came of one that was acknowledged.
 
 use crate::called::Called;
-use crate::text::Text;
 use crate::track::{Place, Track, put_track};
 use block9::Command;
 use deck9::{DeckRef, Effect, Known, Mode, ModeSet, Profile};
 use report9::put_modes;
 use seen9::SeenExchange;
+use text9::Text;
 
 /// Which way the tape runs by a command.
 #[derive(Clone, Copy, PartialEq, Eq)]

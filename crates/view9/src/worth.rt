@@ -1,12 +1,12 @@
 //! What is worth looking at of what a deck did.
 
 use crate::motion::{MotionLine, tell};
-use crate::text::Text;
 use crate::track::{Place, Track};
 use crate::transport::{Followed, Transport};
 use deck9::{Mode, ModeSet};
 use report9::put_modes;
 use std::alloc::AllocError;
+use text9::Text;
 
 /// For how long a time stands still where that is worth looking at, in microseconds.
 const STILL_US: u64 = 1_000_000;

@@ -6,8 +6,9 @@ use crate::breaks::sentences::put_called;
 use crate::html::put_lasting;
 use block9::{Block, Exchange};
 use deck9::{Knowledge, ModeSet, Profile};
-use picture9::{Done, Markup, answered_of, asked_of, put_known_before, says_of};
+use picture9::{answered_of, asked_of, put_known_before, says_of};
 use report9::{WhyNo, put_block};
+use text9::{Done, Markup};
 use view9::Called;
 
 /// How many commands between two replies are named.

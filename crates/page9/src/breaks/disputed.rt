@@ -5,8 +5,8 @@ use deck9::{
     Effect, Forgotten, Knowledge, Known, KnownEntry, ModeSet, Profile, Register, RegistersSet,
     Sense,
 };
-use picture9::Markup;
 use report9::{WhyNo, status_in};
+use text9::Markup;
 
 /// Fields of a deck.
 #[derive(Clone, Copy, PartialEq, Eq)]

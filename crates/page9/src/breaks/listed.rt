@@ -1,9 +1,9 @@
 //! An entry of the list of breaks.
 
 use crate::html::{BreakId, put_reason, put_run};
-use picture9::Markup;
 use seen9::SeenBreak;
 use std::alloc::Global;
+use text9::Markup;
 use view9::BreakRun;
 
 /// A break or a late reply that is listed, with the equal ones that follow it in a row.

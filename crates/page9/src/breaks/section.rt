@@ -4,7 +4,8 @@ use crate::again::Again;
 use crate::breaks::Breaks;
 use crate::doubts::Doubts;
 use block9::Reason;
-use picture9::{Done, MOST_PICTURES, Markup};
+use picture9::MOST_PICTURES;
+use text9::{Done, Markup};
 
 impl Breaks<'_> {
     /// Puts the section. A command is asked again so, and signs of the capture put reasons in doubt so.

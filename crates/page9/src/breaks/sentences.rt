@@ -4,9 +4,10 @@ use crate::html::put_lasting;
 use block9::{Open, Reason};
 use capture9::{LineByte, Wire};
 use deck9::Profile;
-use picture9::{Done, Markup, command_name};
+use picture9::command_name;
 use report9::{WhyNo, end_before, put_bytes, put_text};
 use std::alloc::{AllocError, Global};
+use text9::{Done, Markup};
 use view9::Called;
 
 /// The command at which a break came: the last of the replies that contradict one another has answered it, it is open, or it is that

@@ -1,8 +1,8 @@
 //! The lines of `why`, with the verdict as the last one.
 
 use deck9::Profile;
-use picture9::{Done, Markup};
 use report9::{WhyNo, put_why_for};
+use text9::{Done, Markup};
 
 /// How many replies contradict one another; none where the break is another one.
 pub(super) fn replies_of(why: &WhyNo) -> usize {
