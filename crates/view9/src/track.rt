@@ -1,5 +1,6 @@
 //! The times that a deck answers, followed from one to the next.
 
+use crate::reply::Reply;
 use seen9::SeenExchange;
 use tc25::{Rate, TimeCode};
 use text9::Text;
@@ -72,12 +73,12 @@ impl Place {
 }
 
 impl Answer {
-    /// The time in a reply to CURRENT TIME SENSE, where its bytes are one. The heads belong to block9, which judges times by them.
+    /// The time in a reply to CURRENT TIME SENSE, where its bytes are one.
     pub(crate) fn of(rate: Rate, seen: &SeenExchange<'_>) -> Option<Answer> {
         let reply = &seen.exchange.reply;
-        let is_timer = match reply.head() {
-            0x74_00 | 0x74_01 => true,
-            0x74_04 | 0x74_06 | 0x74_14 | 0x74_16 => false,
+        let is_timer = match Reply::of(reply.head()) {
+            Some(Reply::TimerTime) => true,
+            Some(Reply::TapeTime) => false,
             _ => return None,
         };
         Some(Answer {
@@ -219,12 +220,10 @@ pub(crate) fn put_track(line: &mut Text, track: &Option<Track>) {
     }
 }
 
-/// So many frames last so many microseconds: as many as a second has labels. It belongs to tc25.
+/// So many frames last so many microseconds: as many as a second has labels.
 fn pace(rate: Rate) -> (u32, u32) {
     match rate {
-        Rate::Fps24 => (24, 1_000_000),
-        Rate::Fps25 => (25, 1_000_000),
-        Rate::Fps30 => (30, 1_000_000),
-        Rate::DropFrame => (30, 1_001_000),
+        Rate::DropFrame => (rate.in_second(), 1_001_000),
+        _ => (rate.in_second(), 1_000_000),
     }
 }
