@@ -3,7 +3,6 @@
 mod contradiction;
 mod disputed;
 mod listed;
-mod meanings;
 mod reasons;
 mod section;
 mod sentences;
