@@ -11,6 +11,9 @@ use std::io::{self, Read};
 /// As much is kept of a capture that is read once, which is 128 MiB: about nine million records.
 const MOST_KEPT: usize = 0x800_0000;
 
+/// So much of a capture is read at a time.
+const PIECE: usize = 0x4000;
+
 /// A capture, as it is read.
 #[derive(Drop)]
 pub enum Again<'t, R: Read + Drop> {
@@ -146,11 +149,21 @@ pub fn text_again<R: Read + Drop>(text: &[u8]) -> Again<'_, R>
 }
 
 /// Reads a capture to its end, to be read again and again. The error is that of the reader, or that memory is refused.
+///
+/// It reads by a loop of its own, since the library's `read_to_end` first clears all room that it reads into, a byte at a time.
 pub fn read_whole<R: Read + Drop>(alloc: Global, reader: R) -> io::Result<Vec<u8>>
     ensures { IfOk result (λ text. IfSome (R.remaining reader) (λ known. text.items ≡ known)) }
 {
     let mut reader = reader;
     let mut text = Vec::new(alloc);
-    reader.read_to_end(&mut text)?;
-    Ok(text)
+    let mut piece = [0; PIECE];
+    for _ in 0..u64::MAX {
+        match reader.read(&mut piece) {
+            Ok(0) => return Ok(text),
+            Ok(taken) => text.extend_from_slice(&piece[..taken])?,
+            Err(error) if error.kind() == io::ErrorKind::Interrupted => {}
+            Err(error) => return Err(error),
+        }
+    }
+    Err(io::Error::from(io::ErrorKind::OutOfMemory))
 }
