@@ -148,13 +148,12 @@ impl ModeOverTime {
         self.fill_to(last);
         let width_us = self.width_us;
         let place = mode.index();
-        let cells = self.cells.as_mut_slice();
+        let Some(cells) = self.cells.as_mut_slice().get_mut(first as usize..) else {
+            return;
+        };
         let mut start_us = first.saturating_mul(width_us);
-        for cell in cells
-            .iter_mut()
-            .skip(first as usize)
-            .take((last.saturating_sub(first) as usize).saturating_add(1))
-        {
+        let count = (last.saturating_sub(first) as usize).saturating_add(1);
+        for cell in cells.iter_mut().take(count) {
             let end_us = start_us.saturating_add(width_us);
             let held_us = to_us.min(end_us).saturating_sub(from_us.max(start_us));
             cell.add(place, held_us);
@@ -227,8 +226,11 @@ fn spread(drawn: &mut [Cell], fine: &Cell, (start_us, end_us): (u64, u64), lasts
     let end_us = end_us.min(lasts_us);
     let whole_us = end_us.saturating_sub(start_us);
     let count = last.saturating_sub(first).saturating_add(1);
+    let Some(cells) = drawn.get_mut(first as usize..) else {
+        return;
+    };
     let mut place = first;
-    for cell in drawn.iter_mut().skip(first as usize).take(count as usize) {
+    for cell in cells.iter_mut().take(count as usize) {
         let from_us = start_us.max(start_of(place, lasts_us));
         place = place.saturating_add(1);
         let to_us = end_us.min(start_of(place, lasts_us));
