@@ -1,0 +1,124 @@
+#!/usr/bin/env bash
+# Makes out/ninecheck-VERSION.html: the program for a browser, and all that its page needs, in one file. It takes the module of the proved
+# program, which is what `rattle build` lowers the proved code to before a compiler has it, compiles that for WebAssembly, and packs it
+# (pack.py). What each step makes stays in out/web, and is made again where what it is made from has changed.
+#
+#   web/build.sh          makes it, as `make web` does
+#   web/build.sh lacks    says what is missing for it, in a line each
+set -euo pipefail
+cd "$(dirname "$0")/.."
+top=$PWD
+work=out/web
+program=crates/ninecheck/out/ninecheck
+
+# lacks: what is missing, in a line each. The tools are of Debian's packages, but for `rt`.
+lacks() {
+    [ -x "$program" ] || echo "the proved program: run make first, it proves and builds it"
+    command -v rt > /dev/null || echo '`rt`, the command of the Rattle kit: it is not on the path'
+    command -v wasm-opt > /dev/null || echo '`wasm-opt`: it is in the package binaryen'
+    command -v node > /dev/null || echo '`node`: it is in the package nodejs'
+    command -v python3 > /dev/null || echo '`python3`: it is in the package of that name'
+}
+
+missing=$(lacks)
+case ${1-} in
+    lacks)
+        [ -z "$missing" ] || echo "$missing"
+        exit 0
+        ;;
+    '') ;;
+    *) echo "usage: web/build.sh [lacks]" >&2; exit 2 ;;
+esac
+if [ -n "$missing" ]; then
+    echo "$missing" | sed 's/^/the page for a browser can not be made without /' >&2
+    exit 1
+fi
+kit=$(dirname "$(dirname "$(readlink -f "$(command -v rt)")")")
+clang=$kit/toolchain/bin/clang
+
+# step FILE WHAT COMMAND FROM...: has this command make the file, unless it was made from the same: these files, the kit and this script.
+step() {
+    local file=$1 what=$2 command=$3 sum
+    shift 3
+    sum=$(cat "$kit/KIT-ID" web/build.sh "$@" | sha256sum)
+    [ -e "$file" ] && [ "$sum" = "$(cat "$file.made-from" 2> /dev/null)" ] && return
+    echo "$what"
+    rm -f "$file" "$file.made-from"
+    "$command"
+    echo "$sum" > "$file.made-from"
+}
+
+# The module of the proved program. `rattle build` proves the program once more over its libraries as they were built, and hands the module
+# to the clang of the folder that it is given; the one here hands it on as it is.
+lower() {
+    hand_on
+    mapfile -t words < <(words_for_rattle)
+    (cd crates/ninecheck && "$kit/bin/rattle" build "${words[@]}" --toolchain "$top/$work/hands_on" -o "$top/$work/module.bc") \
+        > "$work/lower.log" 2>&1 || { cat "$work/lower.log" >&2; exit 1; }
+    grep -q '^logic=proved ' "$work/lower.log" || { cat "$work/lower.log" >&2; exit 1; }
+}
+
+# The folder of a toolchain whose clang hands on. It is started in an empty environment, so it finds nothing by a path.
+hand_on() {
+    rm -rf "$work/hands_on"
+    mkdir -p "$work/hands_on/bin"
+    ln -s "$kit/toolchain/lib" "$work/hands_on/lib"
+    for tool in "$kit"/toolchain/bin/*; do
+        [ "${tool##*/}" = clang ] || ln -s "$tool" "$work/hands_on/bin"
+    done
+    install -m 755 web/hand_on.sh "$work/hands_on/bin/clang"
+}
+
+# What `rattle build` is told of the program, a word a line: its libraries of this repository and of the kit, where those below them stand, and
+# what was proved of it before, if `make` proved it.
+words_for_rattle() {
+    local crate library
+    printf '%s\n' --crate-name ninecheck src/main.rt --extern "std=$kit/rlibs/std.rlib" -L "dependency=$kit/rlibs"
+    for library in $(sed -n 's/^ninecheck://p' crates.txt); do
+        if [ -d "crates/$library" ]; then
+            printf '%s\n' --extern "$library=$top/crates/$library/out/rlib/$library.rlib"
+        else
+            printf '%s\n' --extern "$library=$kit/rlibs/$library.rlib"
+        fi
+    done
+    for crate in crates/*/out/rlib; do printf '%s\n' -L "dependency=$top/$crate"; done
+    printf '%s\n' --antt-project "$kit/rattle/logic/antt-project.json" --logic-built "$kit/logic_built" --links ninecheck= --backend llvm
+    [ ! -d crates/ninecheck/out/incremental ] || printf '%s\n' --incremental out/incremental
+}
+
+for_wasm=(--target=wasm64-unknown-unknown -mcpu=lime1 -O3 -ffunction-sections -fdata-sections)
+# There is no division of 128 bits to call, so each stands where it is used.
+for_wasm+=(-mllvm -expand-div-rem-bits=64)
+
+compile() {
+    "$clang" -x ir "$work/module.bc" -S -emit-llvm -Xclang -disable-llvm-passes -o - | python3 web/retarget.py > "$work/module.ll"
+    "$clang" "${for_wasm[@]}" -x ir -c "$work/module.ll" -o "$work/program.o"
+    rm "$work/module.ll"
+}
+
+# The whole as wasm64, and from that as wasm32, which every browser takes. Its stack begins at address 0, so that it can't run over into
+# what is kept in memory; and memory ends 16 MiB below 2^32, so that an address below 0 is none in it either.
+link() {
+    local source objects=()
+    for source in shim compiler_calls; do
+        "$clang" "${for_wasm[@]}" -fno-builtin -Wall -Wextra -Werror -c "web/$source.c" -o "$work/$source.o"
+        objects+=("$work/$source.o")
+    done
+    ln -sf "$clang" "$work/wasm-ld"
+    "$work/wasm-ld" -mwasm64 --no-entry --stack-first -z stack-size=8388608 --max-memory=4278190080 --export=__stack_pointer \
+        --gc-sections --fatal-warnings --strip-all "$work/program.o" "${objects[@]}" -o "$work/wasm64.wasm"
+    python3 web/untable.py "$work/wasm64.wasm"
+    wasm-opt --enable-memory64 --enable-bulk-memory --enable-sign-ext --enable-nontrapping-float-to-int --enable-mutable-globals \
+        --memory64-lowering "$work/wasm64.wasm" -o "$work/ninecheck.wasm"
+}
+
+version=$(make/version.sh)
+page=out/ninecheck-$version.html
+pack() { python3 web/pack.py "$work/ninecheck.wasm" "$version" "$page"; }
+
+mkdir -p "$work"
+step "$work/module.bc" 'the module of the proved program is made: about a minute' lower "$program" web/hand_on.sh
+step "$work/program.o" 'it is compiled for WebAssembly: about two minutes' compile "$work/module.bc" web/retarget.py
+step "$work/ninecheck.wasm" 'it is linked' link "$work/program.o" web/*.c web/untable.py
+pack
+echo "$page"
