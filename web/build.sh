@@ -3,8 +3,9 @@
 # program, which is what `rattle build` lowers the proved code to before a compiler has it, compiles that for WebAssembly, and packs it
 # (pack.py). What each step makes stays in out/web, and is made again where what it is made from has changed.
 #
-#   web/build.sh          makes it, as `make web` does
-#   web/build.sh lacks    says what is missing for it, in a line each
+#   web/build.sh           makes it, as `make web` does
+#   web/build.sh lacks     says what is missing for it, in a line each
+#   web/build.sh stands    ends with status 0 where it is there, and is made from all as it stands now
 set -euo pipefail
 cd "$(dirname "$0")/.."
 top=$PWD
@@ -26,22 +27,24 @@ case ${1-} in
         [ -z "$missing" ] || echo "$missing"
         exit 0
         ;;
-    '') ;;
-    *) echo "usage: web/build.sh [lacks]" >&2; exit 2 ;;
+    '' | stands) ;;
+    *) echo 'usage: web/build.sh [lacks | stands]' >&2; exit 2 ;;
 esac
 if [ -n "$missing" ]; then
-    echo "$missing" | sed 's/^/the page for a browser can not be made without /' >&2
+    [ "${1-}" = stands ] || echo "$missing" | sed 's/^/the page for a browser is not made without /' >&2
     exit 1
 fi
 kit=$(dirname "$(dirname "$(readlink -f "$(command -v rt)")")")
 clang=$kit/toolchain/bin/clang
 
 # step FILE WHAT COMMAND FROM...: has this command make the file, unless it was made from the same: these files, the kit and this script.
+only_asked=${1-}
 step() {
     local file=$1 what=$2 command=$3 sum
     shift 3
     sum=$(cat "$kit/KIT-ID" web/build.sh "$@" | sha256sum)
     [ -e "$file" ] && [ "$sum" = "$(cat "$file.made-from" 2> /dev/null)" ] && return
+    [ -z "$only_asked" ] || exit 1
     echo "$what"
     rm -f "$file" "$file.made-from"
     "$command"
@@ -74,7 +77,7 @@ hand_on() {
 words_for_rattle() {
     local crate library
     printf '%s\n' --crate-name ninecheck src/main.rt --extern "std=$kit/rlibs/std.rlib" -L "dependency=$kit/rlibs"
-    for library in $(sed -n 's/^ninecheck://p' crates.txt); do
+    for library in $(sed -n 's/^ninecheck: *//p' crates.txt); do
         if [ -d "crates/$library" ]; then
             printf '%s\n' --extern "$library=$top/crates/$library/out/rlib/$library.rlib"
         else
@@ -110,15 +113,22 @@ link() {
     python3 web/untable.py "$work/wasm64.wasm"
     wasm-opt --enable-memory64 --enable-bulk-memory --enable-sign-ext --enable-nontrapping-float-to-int --enable-mutable-globals \
         --memory64-lowering "$work/wasm64.wasm" -o "$work/ninecheck.wasm"
+    # An engine looks at the whole of it as it loads it.
+    node -e 'new WebAssembly.Module(require("fs").readFileSync(process.argv[1]))' "$work/ninecheck.wasm"
 }
-
-version=$(make/version.sh)
-page=out/ninecheck-$version.html
-pack() { python3 web/pack.py "$work/ninecheck.wasm" "$version" "$page"; }
 
 mkdir -p "$work"
 step "$work/module.bc" 'the module of the proved program is made: about a minute' lower "$program" web/hand_on.sh
 step "$work/program.o" 'it is compiled for WebAssembly: about two minutes' compile "$work/module.bc" web/retarget.py
-step "$work/ninecheck.wasm" 'it is linked' link "$work/program.o" web/*.c web/untable.py
-pack
-echo "$page"
+step "$work/ninecheck.wasm" 'it is linked' link "$work/program.o" web/*.c web/integers.h web/untable.py
+
+# The page is packed in a second, so it is packed to be compared too.
+version=$(make/version.sh)
+page=out/ninecheck-$version.html
+python3 web/pack.py "$work/ninecheck.wasm" "$version" "$work/page.html"
+if [ -n "$only_asked" ]; then
+    cmp -s "$work/page.html" "$page"
+else
+    mv "$work/page.html" "$page"
+    echo "made: $page"
+fi

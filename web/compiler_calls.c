@@ -1,8 +1,5 @@
 // What the compiler calls by name: comparing of bytes, and integers of 128 bits.
-typedef unsigned char byte;
-typedef unsigned int u32;
-typedef unsigned long u64;
-typedef unsigned __int128 u128;
+#include "integers.h"
 
 int memcmp(const void *one, const void *other, u64 size) {
     const byte *a = one, *b = other;

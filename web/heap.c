@@ -1,8 +1,9 @@
-// The heap: what a block of memory is taken from, and where it goes back to. shim.c includes this file, and so does the test of it
-// (tests/web/heap.c), which has a `grow` of its own.
+// The heap: what a block of memory is taken from, and where it goes back to. shim.c includes this file, and so does tests/web/heap.c.
 //
 // Blocks have one of some sizes, four to each doubling, and each size has a list of its free blocks. A new block comes from the end of what
 // was taken of memory so far. Each is aligned to 16 bytes, as the program needs, and has 16 bytes before it that say its kind.
+#include "integers.h"
+
 #define PAGE 65536UL
 #define KINDS 128
 // No block can be larger than memory. Sizes near 2^64 end here, before any sum of them could run over.
@@ -14,14 +15,8 @@ struct head {
 };
 static struct head *free_of[KINDS];
 static byte *top, *end;
-
-#ifndef HEAP_TEST
+// The linker's name for where memory is free.
 extern byte __heap_base;
-static byte *heap_begin(void) { return &__heap_base; }
-static byte *memory_end(void) { return (byte *)(__builtin_wasm_memory_size(0) * PAGE); }
-// In a memory of 32 bits a refusal is 2^32 - 1, also where it is asked for by 64 bits: the upper half is not to be looked at.
-static i32 grow(u64 pages) { return (u32)__builtin_wasm_memory_grow(0, pages) != ~0U; }
-#endif
 
 // The smallest kind that holds so many bytes.
 static u32 kind_of(u64 size) {
@@ -36,11 +31,12 @@ static u64 size_of_kind(u32 kind) {
     return (1UL << doubling) + (quarter + 1) * (1UL << (doubling - 2));
 }
 
-// Has memory reach up to there, and says whether it does.
+// Has memory reach up to there, and says whether it does. Made for addresses of 32 bits, memory.grow says no by 2^32 - 1, and not by -1: the
+// upper half of its answer is not to be looked at.
 static i32 reach(byte *to) {
     if (to <= end) return 1;
     u64 pages = ((u64)(to - end) + PAGE - 1) / PAGE;
-    if (!grow(pages)) return 0;
+    if ((u32)__builtin_wasm_memory_grow(0, pages) == ~0U) return 0;
     end += pages * PAGE;
     return 1;
 }
@@ -55,8 +51,8 @@ static byte *take(u64 size) {
         return (byte *)(head + 1);
     }
     if (!top) {
-        top = (byte *)(((u64)heap_begin() + 15) & ~15UL);
-        end = memory_end();
+        top = (byte *)(((u64)&__heap_base + 15) & ~15UL);
+        end = (byte *)(__builtin_wasm_memory_size(0) * PAGE);
     }
     byte *after = top + sizeof(struct head) + size_of_kind(kind);
     if (!reach(after)) return 0;

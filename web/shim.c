@@ -1,14 +1,9 @@
 // What the program asks of the C library and of Linux, for a browser: memory, the words of the command line, and files by four functions of
 // the host (host.js). No proof covers this file. It stands where the C library and the kernel stand on Linux.
 //
-// The program has pointers of 64 bits, and runs in a memory of 32: binaryen cuts each address, and gives sizes and answers of the host as 64
-// bits. So nothing here may hand out an address of 2^32 or more, and memory never reaches that far (see MOST).
-typedef unsigned char byte;
-typedef unsigned short u16;
-typedef unsigned int u32;
-typedef int i32;
-typedef unsigned long u64;
-typedef long i64;
+// The program has pointers of 64 bits, and runs in a memory whose addresses have 32: binaryen cuts each one as it is used. So nothing here
+// may hand out an address of 2^32 or more.
+#include "heap.c"
 
 #define HOST(name) __attribute__((import_module("host"), import_name(name)))
 // Opens the file of this name to read it, or makes it where `makes` is 1: its descriptor, or -errno.
@@ -28,8 +23,6 @@ HOST("close") void host_close(i32 descriptor);
 #define O_CLOEXEC 02000000
 #define S_IFREG 0100000
 #define STATX_TYPE 1
-
-#include "heap.c"
 
 // The struct that the program takes has a bool and a pointer. The module asks for it as two integers of 64 bits, so all of the first is set.
 struct tried {
