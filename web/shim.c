@@ -16,7 +16,9 @@ HOST("close") void host_close(i32 descriptor);
 // What Linux says on x86-64, by which the program was compiled.
 #define EINVAL 22
 #define ESPIPE 29
-#define O_ACCMODE 03
+#define O_RDONLY 00
+#define O_WRONLY 01
+#define O_RDWR 02
 #define O_CREAT 0100
 #define O_EXCL 0200
 #define O_NOCTTY 0400
@@ -87,11 +89,11 @@ static i64 answered(i64 answer) {
 i64 read(i32 descriptor, byte *to, u64 most) { return answered(host_read(descriptor, to, most)); }
 i64 write(i32 descriptor, const byte *from, u64 size) { return answered(host_write(descriptor, from, size)); }
 
-// A file is read, or is made where none of that name is. Other ways to open one, of which the program asks for none, are refused, so that
-// none is taken for another.
+// A file is opened to be read, or is made where none of that name is: Rust's create_new, which asks to read it too, but the program only
+// writes it. Other ways to open one, of which the program asks for none, are refused, so that none is taken for another.
 i32 open(const byte *name, i32 flags, ...) {
-    i32 way = flags & ~(O_NOCTTY | O_CLOEXEC), makes = way == (1 | O_CREAT | O_EXCL);
-    if (way != 0 && !makes) return (i32)answered(-EINVAL);
+    i32 way = flags & ~(O_NOCTTY | O_CLOEXEC), makes = way == (O_RDWR | O_CREAT | O_EXCL) || way == (O_WRONLY | O_CREAT | O_EXCL);
+    if (way != O_RDONLY && !makes) return (i32)answered(-EINVAL);
     return (i32)answered(host_open(name, length_of(name), makes));
 }
 
