@@ -3,12 +3,14 @@
 #   make         proves every crate and builds the program; interrupted, it goes on from there
 #   make install [PREFIX=/usr/local] [DESTDIR=]    make uninstall, with the same
 #   make deb     out/ninecheck_VERSION_amd64.deb
-#   make dist    out/ninecheck-VERSION-linux-x86_64.tar.gz
+#   make dist    out/ninecheck-VERSION-linux-x86_64.tar.gz, with the page for a browser where that was made
+#   make web     out/ninecheck-VERSION.html, the program for a browser in one file. It needs wasm-opt of Debian's binaryen, node and python3
 #   make check   runs every script of tests/, and proves nothing: on the built program, or where none is built on one that is compiled
 #                for a trial (make/keep.sh)
 #   make audit   tries every edit of must-fail/ and audit/, which takes about an hour on four cores
 #
-# Only `make` and `make audit` prove: installing and packing take what `make` or `.ci/run` built.
+# Only `make` and `make audit` prove, but for the one crate of the program, of which `make web` makes the module anew: all else takes what
+# `make` or `.ci/run` built.
 
 PREFIX ?= /usr/local
 DESTDIR ?=
@@ -30,7 +32,7 @@ for_bash := $(to)/share/bash-completion/completions/ninecheck
 for_zsh := $(to)/share/zsh/$(ZSH_FOLDER)/_ninecheck
 for_fish := $(to)/share/fish/vendor_completions.d/ninecheck.fish
 
-.PHONY: program built install uninstall deb dist check audit
+.PHONY: program built install uninstall deb dist web check audit
 
 program:
 	@make/prove.sh
@@ -68,7 +70,11 @@ deb: built
 dist: built
 	rm -rf out/dist
 	$(MAKE) --no-print-directory install DESTDIR= PREFIX=out/dist/$(PACKAGE) PAGE_PREFIX=/usr/local
+	! web/build.sh stands || install -m 644 out/ninecheck-$(VERSION).html out/dist/$(PACKAGE)
 	tar -C out/dist --owner=0 --group=0 -czf out/$(PACKAGE).tar.gz $(PACKAGE)
+
+web:
+	@web/build.sh
 
 check:
 	@make/check.sh

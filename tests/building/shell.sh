@@ -12,7 +12,7 @@ if ! command -v shellcheck > /dev/null; then
 fi
 
 # What a script sources is looked at with it.
-for script in ninecheck .ci/run make/*.sh tests/[!l]*/*.sh tests/by_hand/*/*.sh bench/*/*.sh; do
+for script in ninecheck .ci/run make/*.sh web/*.sh tests/[!l]*/*.sh tests/by_hand/*/*.sh bench/*/*.sh; do
     judge "$script" eval 'shellcheck -x -S warning "$script" > "$work/out" 2>&1'
 done
 

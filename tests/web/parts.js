@@ -114,7 +114,7 @@ function try_faults(module) {
     const told = { wrote: (descriptor, bytes) => wrote.push(descriptor, bytes.length), read: (...words) => read.push(words) };
     const said = ask(module, ['check', 'a.csv'], new Map([['a.csv', new Uint8Array(text)]]), told);
     judge('what is written is told', wrote[0] === 1 && wrote[1] === said.out.length, wrote);
-    judge('what is read is told', read.length > 0 && String(read[0]) === `a.csv,${text.length},${text.length}`, read);
+    judge('what is read is told', read.length > 1 && String(read.at(-1)) === `a.csv,${text.length},${text.length}`, read);
 }
 
 // The module with so many pages of memory at the most.
@@ -176,7 +176,8 @@ async function try_worker() {
     judge('a module that is none', 'error' in await until());
     send({ wasm: new Uint8Array(fs.readFileSync(wasm)).buffer });
     judge('the module', (await until()).ready === true);
-    const rows = Array.from({ length: 300000 }, (_, row) => `${400 * (row + 1)},C,20`);
+    const play = ['C,20', 'C,01', 'C,21', 'D,10', 'D,01', 'D,11'];
+    const rows = Array.from({ length: 300000 }, (_, row) => `${400 * (row + 1)},${play[row % 6]}`);
     const long = Buffer.from(`time_us,wire,byte\n${rows.join('\n')}\n`);
     const begun = performance.now();
     send({ id: 7, words: ['info', 'long.csv'], files: [{ name: 'long.csv', file: file_of(long) }], input: null });

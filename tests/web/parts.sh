@@ -21,7 +21,7 @@ wasm-opt --enable-memory64 --enable-bulk-memory --memory64-lowering "$work/heap6
 # stub NAME BODY [ROOM]: a module in the place of the program, which does this, and has the words put at ROOM.
 stub() {
     cat > "$work/$1.wat" << EOF
-(module (memory (export "memory") 1) (global \$stack (export "__stack_pointer") (mut i64) (i64.const 65536))
+(module (memory (export "memory") 1) (global \$stack (mut i64) (i64.const 65536)) (export "__stack_pointer" (global \$stack))
     (func (export "room") (param i64) (result i64) (i64.const ${3-16}))
     (func \$run (export "run") (param i64 i64) (result i32) $2))
 EOF
