@@ -1,0 +1,60 @@
+'use strict';
+// The terms that stand beside the answer. A change asks again.
+
+const NO_SHEET = 'none', SHIPPED_SHEET = 'shipped', OWN_SHEET = 'own';
+const sheets = { [NO_SHEET]: null, [SHIPPED_SHEET]: null, [OWN_SHEET]: null };
+
+function start_terms() {
+    const { name, text } = JSON.parse(element('shipped-sheet').textContent);
+    sheets[SHIPPED_SHEET] = { name: `decks/${name}`, file: new Blob([text]) };
+    element('terms').addEventListener('submit', event => event.preventDefault());
+    element('terms').addEventListener('change', event => {
+        if (event.target.id !== 'sheet-file') ask_again();
+    });
+}
+
+function read_terms() {
+    return {
+        rate: element('rate').value,
+        hands: element('hands').checked,
+        all: element('all').checked,
+        sync: element('sync').checked,
+        sheet: sheets[element('sheet').value],
+        from: element('from').value.trim(),
+        to: element('to').value.trim(),
+    };
+}
+
+function ask_again() {
+    if (session.capture) judge(session.capture, read_terms());
+}
+
+// change_terms({rate: '30', hands: true}): these as named, the others as they stand.
+function change_terms(changed) {
+    if ('rate' in changed) element('rate').value = changed.rate;
+    if ('from' in changed) element('from').value = changed.from;
+    if ('to' in changed) element('to').value = changed.to;
+    for (const name of ['hands', 'all', 'sync']) if (name in changed) element(name).checked = changed[name];
+    if (changed.sheet === null) element('sheet').value = NO_SHEET;
+    ask_again();
+}
+
+// A sheet that was dropped or chosen, which the program takes.
+function take_sheet({ name, file }) {
+    sheets[OWN_SHEET] = { name, file };
+    const option = element('own-sheet');
+    option.textContent = name;
+    option.hidden = false;
+    option.disabled = false;
+    element('sheet').value = OWN_SHEET;
+}
+
+// Whether the program takes the times of a stretch: a message where it does not.
+async function takes_stretch(terms) {
+    if (!terms.from && !terms.to) return true;
+    const words = words_of('digest', { ...terms, sheet: null }, EMPTY_CAPTURE);
+    const said = await ask(words, [EMPTY_CAPTURE]);
+    if (said.status === 0) return true;
+    tell_message('From and To want a time', 'Seconds, such as 12.5, or a clock, such as 14:30:47.25, with at most six decimals.');
+    return false;
+}
