@@ -48,7 +48,7 @@ install: built
 	install -D -m 644 -t "$(to)/share/ninecheck/examples/exports" examples/exports/*
 	install -D -m 644 -t "$(to)/share/ninecheck/examples/views" examples/views/*
 	install -D -m 644 -t "$(to)/share/doc/ninecheck" README.md docs/*.md
-	install -D -m 644 -t "$(to)/share/doc/ninecheck/pictures" docs/pictures/*.svg
+	install -D -m 644 -t "$(to)/share/doc/ninecheck/pictures" docs/pictures/*
 	install -D -m 644 package/ninecheck.1 "$(page)"
 	sed -i 's/@VERSION@/$(VERSION)/; s|/usr/local/|$(PAGE_PREFIX)/|' "$(page)"
 	install -D -m 644 package/ninecheck.bash "$(for_bash)"

@@ -190,9 +190,9 @@ async function try_worker() {
     send({ id: 8, words: ['check', 'gone.csv'], files: [{ name: 'gone.csv', file: file_of(long, true) }], input: null });
     const fault = posted.pop();
     judge('a file that is gone', fault.id === 8 && fault.fault && fault.fault.kind === 'file' && fault.fault.text === 'NotReadableError', JSON.stringify(fault));
-    send({ id: 9, words: ['split', '--rows', '100000', '--to', 'part'], files: [], input: file_of(long) });
+    send({ id: 9, words: ['split', '--rows', '150000', '--to', 'part'], files: [], input: file_of(long) });
     const after = posted.pop();
-    judge('an answer after a fault, of the standard input', after.id === 9 && after.made && after.made.length === 3, JSON.stringify(after).slice(0, 300));
+    judge('an answer after a fault, of the standard input', after.id === 9 && after.made && after.made.map(([name]) => name).join() === 'part-001.csv,part-002.csv', JSON.stringify(after).slice(0, 300));
 }
 
 try_heap();
