@@ -85,7 +85,8 @@ words_for_rattle() {
         fi
     done
     for crate in crates/*/out/rlib; do printf '%s\n' -L "dependency=$top/$crate"; done
-    printf '%s\n' --antt-project "$kit/rattle/logic/antt-project.json" --logic-built "$kit/logic_built" --links ninecheck= --backend llvm
+    printf '%s\n' --antt-project "$kit/rattle/logic/antt-project.json" --logic-built "$kit/logic_built"
+    printf '%s\n' --links ninecheck= --backend llvm
     [ ! -d crates/ninecheck/out/incremental ] || printf '%s\n' --incremental out/incremental
 }
 

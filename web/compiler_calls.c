@@ -34,7 +34,7 @@ union halves {
     };
 };
 
-// A shift by 64 or more takes one half alone; one by 0 would shift the other half by 64, which is not defined, so that one goes in two steps.
+// A shift by 64 or more takes one half alone. One by 0 would shift the other half by 64, which C does not define, so that goes in two steps.
 u128 __ashlti3(u128 number, int by) {
     union halves from = {number}, to;
     if (by & 64) {

@@ -69,7 +69,7 @@ static void give_back(byte *block) {
     free_of[head->kind] = head;
 }
 
-// The block with at least so many bytes, with what stood in it; it may be another one. Where there is no memory, 0, and the block is as it was.
+// The block with at least so many bytes, with what stood in it; it may be another one. Where there is no memory: 0, and the block as it was.
 static byte *resize(byte *block, u64 size) {
     struct head *head = (struct head *)block - 1;
     u64 had = size_of_kind((u32)head->kind);

@@ -107,20 +107,24 @@ function host_of(files, memory) {
     };
 }
 
-// What a trap is: of the engine's stack, of the program's own, of memory that is refused, or of the program.
+// What a trap is: of the engine's stack, of the program's own, of memory that the engine has not, or of the program.
 function fault_of(error, instance) {
     if (error instanceof Fault) return error;
-    if (error.name === 'InternalError' || /call stack|recursion/i.test(error.message)) return new Fault('stack', error);
-    // The program's stack begins at 0, so it has run over where its end has gone below.
-    const stack_end = instance && instance.exports.__stack_pointer;
-    if (stack_end && BigInt.asIntN(64, BigInt(stack_end.value)) < 0n) return new Fault('stack', error);
-    if (error instanceof RangeError || /memory/i.test(error.message) && !(error instanceof WebAssembly.RuntimeError)) return new Fault('memory', error);
+    // Each browser has words of its own for its stack.
+    if (/call stack|recursion/i.test(String(error))) return new Fault('stack', error);
+    // The program's stack begins at address 0, so it has run over where its pointer is below.
+    const pointer = instance && instance.exports.__stack_pointer;
+    if (pointer && BigInt.asIntN(64, pointer.value) < 0n) return new Fault('stack', error);
+    const is_of_engine = !(error instanceof WebAssembly.RuntimeError);
+    if (is_of_engine && (error instanceof RangeError || /memory|allocat/i.test(String(error)))) return new Fault('memory', error);
     return new Fault('program', error);
 }
 
 // ask(module, words, files, told): {status, out, err, made, memory}. A trap is thrown as a Fault, and never taken for an answer.
-//   files  has get(name): a Uint8Array, or {size, read(from, to)} whose read answers one, or -errno; nothing where there is no such file
-//   told   may have input, the standard input, as a file; wrote(descriptor, bytes), called at each write; read(name, up_to, size), at each read
+//   files  has get(name): a file, which is a Uint8Array, or {size, read(from, to)} whose read answers one; -errno where it can't be
+//          opened; nothing where there is none of that name
+//   told   may have input, the file that is the standard input; wrote(descriptor, bytes), called at each write; and
+//          read(name, up_to, size), called at each read
 //   made   the files that the program made, each with its bytes
 function ask(module, words, files, told = {}) {
     const seen = new Files(files, told);

@@ -16,6 +16,8 @@ function in_pieces(file) {
             if (from < begin || to > begin + held.length) {
                 begin = from;
                 held = new Uint8Array(reader.readAsArrayBuffer(file.slice(from, Math.max(to, from + PIECE))));
+                // What ended here would be taken for the whole.
+                if (held.length < to - from) throw new Error('the file is shorter than it was');
             }
             return held.subarray(from - begin, to - begin);
         },
@@ -41,7 +43,7 @@ function answer(program, { id, words, files, input }, post) {
         const moved = [said.out, said.err, ...made.map(([, bytes]) => bytes)].map(bytes => bytes.buffer);
         post({ id, status: said.status, out: said.out, err: said.err, made, memory: said.memory, ms: performance.now() - begun }, moved);
     } catch (fault) {
-        post({ id, fault: { kind: fault.kind, text: fault.message } }, []);
+        post({ id, fault: { kind: fault.kind || 'program', text: fault.message } }, []);
     }
 }
 

@@ -1,7 +1,7 @@
-// node ask.js MODULE.wasm FILE WORDS...: asks the module these words of this file, which it reads in pieces as the page's worker does. Where FILE is a
-// number there is no file, but so many rows of PLAY and its acknowledgement, which are made as they are read. Writes one line of JSON: how
-// long the module took to compile, what processor time the asking took, in milliseconds, the memory of the program in bytes, its status,
-// how much it wrote, and the end of that.
+// node ask.js MODULE.wasm FILE WORDS...: asks the module these words of this file, which it reads in pieces as the page's worker does.
+// Where FILE is a number there is no file, but so many rows of PLAY and its acknowledgement, which are made as they are read. Writes one
+// line of JSON: how long the module took to compile, what processor time the asking took, in milliseconds, the memory of the program in
+// bytes, its status, and the end of what it wrote.
 'use strict';
 const fs = require('fs');
 const { ask } = require('../../web/host.js');
@@ -58,4 +58,5 @@ const before = process.cpuUsage();
 const said = ask(module_here, [...words, 'capture.csv'], new Map([['capture.csv', file]]));
 const used = process.cpuUsage(before);
 const end = Buffer.from(said.out.subarray(-100)).toString();
-console.log(JSON.stringify({ compiled, processor: (used.user + used.system) / 1000, memory: said.memory, status: said.status, size: said.out.length, end }));
+const processor = (used.user + used.system) / 1000;
+console.log(JSON.stringify({ compiled, processor, memory: said.memory, status: said.status, end }));

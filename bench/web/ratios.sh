@@ -3,8 +3,8 @@
 # of polling (bench/lib/polling.py), as ratios to the built program in the same run, and the memory of both on 4,000,000; how long the module
 # takes to be ready, and the size of the page; and `check --all` of 40,000,000 records, or of as many as the second word says, which are
 # made as they are read. All are run in turn, five times or as often as the first word says, and the best time of each counts. Wanted are
-# at most 3.5 times the built program's time; 8.5 MiB for `check`, also of 40,000,000 records, and 200 MiB for the page of 4,000,000; a page of
-# 1.2 MB, ready in 2 s: else this ends with status 1. Not part of the gate. It takes the program that `make` built, and what `make web` made.
+# at most 3.5 times the built program's time; 8.5 MiB for `check`, also of 40,000,000 records, and 200 MiB for the page of 4,000,000; a
+# page of 1.2 MB, ready in 2 s: else this ends with status 1. Not part of the gate. It takes what `make` built, and what `make web` made.
 set -u
 turns=${1:-5}
 records=${2:-40000000}

@@ -12,23 +12,26 @@ const module = module_of(wasm);
 
 // What is asked of each capture; its name comes last.
 const OF_A_CAPTURE = [
-    'check', 'check --all', 'check --hands --rate 30', 'check --sync --rate 24', 'explain', 'explain --bytes --all', 'run', 'run --hands', 'why',
-    'why --all --rate 29.97df', 'try', 'touches', 'digest', 'delays', 'motion', 'clock', 'info', 'json --bytes', 'json check --all', 'json run',
-    'json why', 'picture', 'picture --width 800 --hands', 'page --all', 'page --from 0.003 --to 0.02', 'split --rows 20 --to part',
+    'check', 'check --all', 'check --hands --rate 30', 'check --sync --rate 24', 'explain', 'explain --bytes --all', 'run', 'run --hands',
+    'why', 'why --all --rate 29.97df', 'try', 'touches', 'digest', 'delays', 'motion', 'clock', 'info', 'json --bytes', 'json check --all',
+    'json run', 'json why', 'picture', 'picture --width 800 --hands', 'page --all', 'page --from 0.003 --to 0.02',
+    'split --rows 20 --to part',
 ].map(text => text.split(' '));
 // What is asked of each export, and of each capture beside them.
 const OF_AN_EXPORT = [
     'convert sigrok', 'convert sigrok --samplerate 2000000', 'convert sigrok --samplerate 2000000 --from 0.02', 'convert saleae',
     'convert saleae --controller Editor --deck Deck', 'convert saleae --controller Editor', 'convert log --controller COM3 --deck COM4',
-    'convert log --controller COM3 --deck COM4 --live', 'convert log --unit ms --controller COM3 --deck COM4', 'convert log', 'check', 'check --all',
-    'check --sync', 'explain', 'info', 'info --sync', 'why', 'try', 'digest', 'json', 'page', 'clock', 'picture', 'split --to part',
+    'convert log --controller COM3 --deck COM4 --live', 'convert log --unit ms --controller COM3 --deck COM4', 'convert log', 'check',
+    'check --all', 'check --sync', 'explain', 'info', 'info --sync', 'why', 'try', 'digest', 'json', 'page', 'clock', 'picture',
+    'split --to part',
 ].map(text => text.split(' '));
 // What opens no capture, or one that is not there or is none.
 const OTHERS = [
-    '', '--version', '-V', '--help', 'help', 'help check', 'help convert', 'help convert log', 'frobnicate', 'check --rate 31 play.csv',
-    'check --rate 29.97 play.csv', 'check --deck none.toml play.csv', 'check --deck play.csv play.csv', 'check none.csv', 'check .', 'check play.csv/x',
-    'check play.csv echo.csv', 'check ANSWERS', 'split --rows 0 --to part play.csv', 'split play.csv', 'picture --width 3 play.csv', 'convert',
-    'page --from 2 --to 1 play.csv', 'digest --from x play.csv', `check ${'n'.repeat(300)}.csv`, `check ${'n'.repeat(5000)}`,
+    '', '--version', '-V', '--help', 'help', 'help check', 'help convert', 'help convert log', 'frobnicate', 'convert',
+    'check --rate 31 play.csv', 'check --rate 29.97 play.csv', 'check --deck none.toml play.csv', 'check --deck play.csv play.csv',
+    'check none.csv', 'check .', 'check play.csv/x', 'check play.csv echo.csv', 'check ANSWERS', 'split --rows 0 --to part play.csv',
+    'split play.csv', 'picture --width 3 play.csv', 'page --from 2 --to 1 play.csv', 'digest --from x play.csv',
+    `check ${'n'.repeat(300)}.csv`, `check ${'n'.repeat(5000)}`,
 ].map(text => text.split(' ').filter(word => word));
 
 // same WORDS FOLDER INPUT: both answer these words alike, in this folder and on this standard input.
@@ -51,7 +54,8 @@ const names_in = (folder, end) => fs.readdirSync(folder).filter(name => name.end
 function examples() {
     const folder = copy_of('examples');
     for (const name of names_in(folder, '.csv')) for (const words of OF_A_CAPTURE) same([...words, name], folder);
-    for (const name of names_in(path.join(folder, 'views'), '.csv')) for (const words of OF_A_CAPTURE) same([...words, name], path.join(folder, 'views'));
+    const views = path.join(folder, 'views');
+    for (const name of names_in(views, '.csv')) for (const words of OF_A_CAPTURE) same([...words, name], views);
     const shipped = path.resolve('decks/nine-pin-commands.toml');
     for (const sheet of [...names_in(folder, '.toml'), shipped]) {
         const capture = sheet === shipped ? 'play.csv' : sheet.replace('.toml', '.csv');
@@ -66,17 +70,17 @@ function exports() {
     for (const name of fs.readdirSync(folder).sort()) for (const words of OF_AN_EXPORT) same([...words, name], folder);
 }
 
-// A part whose name is taken is refused, and what stands there stays.
+// A part whose name is taken is refused, and what has the name stays.
 function taken_names() {
-    const folder = copy_of('examples');
-    fs.writeFileSync(path.join(folder, 'part-002.csv'), 'kept');
-    same(['split', '--rows', '20', '--to', 'part', 'session.csv'], path.join(folder, 'views'));
-    fs.writeFileSync(path.join(folder, 'views', 'part-002.csv'), 'kept');
-    same(['split', '--rows', '20', '--to', 'part', 'session.csv'], path.join(folder, 'views'));
-    judge('the file that has the name', fs.readFileSync(path.join(folder, 'views', 'part-002.csv'), 'latin1') === 'kept');
+    const views = path.join(copy_of('examples'), 'views');
+    const words = ['split', '--rows', '20', '--to', 'part', 'session.csv'];
+    same(words, views);
+    fs.writeFileSync(path.join(views, 'part-002.csv'), 'kept');
+    same(words, views);
+    judge('the file that has the name', fs.readFileSync(path.join(views, 'part-002.csv'), 'latin1') === 'kept');
 }
 
-// A name with all that a name can have, and one that is no UTF-8's worth of letters apart.
+// Names with what a name can have, and names that look like words of the command line.
 function odd_names() {
     const folder = copy_of('examples');
     for (const name of ['<b>"it\'s"</b>&amp;.csv', 'a\nb\tc.csv', 'Café 日本 \u{1F4FC}.csv', '--all', '-', '%s%n.csv', '..csv']) {
@@ -92,7 +96,8 @@ function odd_names() {
 // Each case of the tables, by its own words, on standard input; and by one list more, by turns.
 function all_cases() {
     let turn = 0;
-    const names = fs.readdirSync(cases).flatMap(table => names_in(path.join(cases, table), '.csv').map(name => path.join(cases, table, name)));
+    const names = fs.readdirSync(cases).map(table => path.join(cases, table))
+        .flatMap(table => names_in(table, '.csv').map(name => path.join(table, name)));
     judge(`cases: ${names.length}`, names.length > 400);
     for (const name of names) {
         const input = fs.readFileSync(name);

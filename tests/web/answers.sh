@@ -1,6 +1,6 @@
 #!/usr/bin/env bash
-# Asks the program of the page what the built program is asked, on each example, case and export: the status, both streams and the files that are
-# made are the same, byte for byte. The last line is 'N passed, M failed'.
+# Asks the program of the page what the built program is asked, on each example, case and export: the status, both streams and the
+# files that are made are the same, byte for byte. The last line is 'N passed, M failed'.
 set -u
 cd "$(dirname "$0")/../.." || exit 1
 . tests/lib/tools.sh

@@ -1,5 +1,5 @@
-// node parts.js MODULE.wasm HEAP.wasm STUBS PROGRAM: the parts beside the program, each alone: the heap, what stands over the program, and the
-// worker. STUBS has modules that trap in the ways in which a program can. The last line is 'N passed, M failed'.
+// node parts.js MODULE.wasm HEAP.wasm STUBS PROGRAM: the parts beside the program, each alone: the heap, what stands over the program,
+// and the worker. STUBS has modules that trap in the ways in which a program can. The last line is 'N passed, M failed'.
 'use strict';
 const fs = require('fs');
 const path = require('path');
@@ -98,7 +98,8 @@ function fault_of(run) {
 }
 
 function try_faults(module) {
-    for (const [name, kind] of [['unreachable', 'program'], ['divides', 'program'], ['outside', 'program'], ['recursion', 'stack'], ['stack', 'stack'], ['no-room', 'memory']]) {
+    const kinds = { unreachable: 'program', divides: 'program', outside: 'program', recursion: 'stack', stack: 'stack', 'no-room': 'memory' };
+    for (const [name, kind] of Object.entries(kinds)) {
         const came = fault_of(() => ask(module_of(path.join(stubs, `${name}.wasm`)), ['check'], none));
         judge(`a module that traps: ${name}`, came === kind, came);
     }
@@ -144,8 +145,8 @@ function try_refusal() {
     const came = ask(bounded, ['check'], none, { input: new Uint8Array(row_without_end) });
     const built = spawnSync('sh', ['-c', 'ulimit -v 65536; exec "$0" check', program], { input: row_without_end });
     judge('memory that is refused, the status', came.status === 5 && built.status === 5, came.status, built.status);
-    judge('memory that is refused, the streams', built.stdout.equals(Buffer.from(came.out)) && built.stderr.equals(Buffer.from(came.err)), built.stderr,
-        Buffer.from(came.err));
+    const is_same = built.stdout.equals(Buffer.from(came.out)) && built.stderr.equals(Buffer.from(came.err));
+    judge('memory that is refused, the streams', is_same, built.stderr, Buffer.from(came.err));
     judge('memory that is refused, its size', came.memory <= 64 * 16 * PAGE, came.memory);
 }
 
@@ -169,30 +170,40 @@ function worker_of(posted) {
     return data => self.onmessage({ data });
 }
 
-async function try_worker() {
-    const posted = [], send = worker_of(posted);
-    const until = async () => { while (!posted.length) await new Promise(soon => setTimeout(soon, 10)); return posted.shift(); };
-    send({ wasm: new Uint8Array([0, 97, 115, 109, 9, 9, 9, 9]).buffer });
-    judge('a module that is none', 'error' in await until());
-    send({ wasm: new Uint8Array(fs.readFileSync(wasm)).buffer });
-    judge('the module', (await until()).ready === true);
+function long_capture() {
     const play = ['C,20', 'C,01', 'C,21', 'D,10', 'D,01', 'D,11'];
     const rows = Array.from({ length: 300000 }, (_, row) => `${400 * (row + 1)},${play[row % 6]}`);
-    const long = Buffer.from(`time_us,wire,byte\n${rows.join('\n')}\n`);
-    const begun = performance.now();
+    return Buffer.from(`time_us,wire,byte\n${rows.join('\n')}\n`);
+}
+
+async function try_worker() {
+    const posted = [], send = worker_of(posted);
+    const next = async () => {
+        while (!posted.length) await new Promise(soon => setTimeout(soon, 10));
+        return posted.shift();
+    };
+    send({ wasm: new Uint8Array([0, 97, 115, 109, 9, 9, 9, 9]).buffer });
+    judge('a module that is none', 'error' in await next());
+    send({ wasm: new Uint8Array(fs.readFileSync(wasm)).buffer });
+    judge('the module', (await next()).ready === true);
+
+    const long = long_capture(), begun = performance.now();
     send({ id: 7, words: ['info', 'long.csv'], files: [{ name: 'long.csv', file: file_of(long) }], input: null });
-    const answer = posted.pop();
-    const most = 1 + (performance.now() - begun) / 100;
-    judge('an answer', answer.id === 7 && answer.status === 0 && Buffer.from(answer.out).includes('records: 300000,'), JSON.stringify(answer).slice(0, 300));
+    const { id, status, out } = posted.pop(), most = 1 + (performance.now() - begun) / 100;
+    judge('an answer', id === 7 && status === 0 && Buffer.from(out).includes('records: 300000,'), id, status);
     judge('how far it is, at most ten times a second', posted.length > 0 && posted.length <= most, posted.length, most);
-    judge('how far it is', posted.every(({ id, progress }) => id === 7 && progress.name === 'long.csv' && progress.read <= progress.size && progress.size === long.length));
-    posted.length = 0;
+    const is_told = ({ name, read, size }) => name === 'long.csv' && read <= size && size === long.length;
+    judge('how far it is', posted.every(message => message.id === 7 && is_told(message.progress)), JSON.stringify(posted));
+
     send({ id: 8, words: ['check', 'gone.csv'], files: [{ name: 'gone.csv', file: file_of(long, true) }], input: null });
-    const fault = posted.pop();
-    judge('a file that is gone', fault.id === 8 && fault.fault && fault.fault.kind === 'file' && fault.fault.text === 'NotReadableError', JSON.stringify(fault));
-    send({ id: 9, words: ['split', '--rows', '150000', '--to', 'part'], files: [], input: file_of(long) });
-    const after = posted.pop();
-    judge('an answer after a fault, of the standard input', after.id === 9 && after.made && after.made.map(([name]) => name).join() === 'part-001.csv,part-002.csv', JSON.stringify(after).slice(0, 300));
+    const fault = JSON.stringify(posted.pop());
+    judge('a file that is gone', fault === '{"id":8,"fault":{"kind":"file","text":"NotReadableError"}}', fault);
+    send({ id: 9, words: ['check', 'short.csv'], files: [{ name: 'short.csv', file: { ...file_of(long), size: long.length + 1 } }], input: null });
+    const short = JSON.stringify(posted.pop());
+    judge('a file that became shorter', short === '{"id":9,"fault":{"kind":"file","text":"the file is shorter than it was"}}', short);
+    send({ id: 10, words: ['split', '--rows', '150000', '--to', 'part'], files: [], input: file_of(long) });
+    const after = posted.pop(), names = (after.made || []).map(([name]) => name).join();
+    judge('an answer after a fault, of the standard input', after.id === 10 && names === 'part-001.csv,part-002.csv', names);
 }
 
 try_heap();

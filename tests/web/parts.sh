@@ -1,6 +1,6 @@
 #!/usr/bin/env bash
-# Tries the parts that stand beside the program in the page, each alone: the heap, what stands over the program, the worker, and what makes the
-# module and packs the page. The last line is 'N passed, M failed'.
+# Tries the parts that stand beside the program in the page, each alone: the heap, what stands over the program, the worker, and what
+# makes the module and packs the page. The last line is 'N passed, M failed'.
 set -u
 cd "$(dirname "$0")/../.." || exit 1
 . tests/lib/tools.sh
@@ -45,7 +45,8 @@ judge 'a layout that is not that of x86-64' ends_by 'retarget.py: the layout is 
     retarget 'target datalayout = "e-p:32:32"'
 judge 'another target' ends_by 'retarget.py: the module is not for x86_64-unknown-linux-gnu: target triple = "aarch64-unknown-linux-gnu"' \
     retarget "$layout\\ntarget triple = \"aarch64-unknown-linux-gnu\""
-judge 'assembly' ends_by 'retarget.py: there is assembly in the module: call void asm sideeffect "cpuid", ""()' retarget '  call void asm sideeffect "cpuid", ""()'
+judge 'assembly' ends_by 'retarget.py: there is assembly in the module: call void asm sideeffect "cpuid", ""()' \
+    retarget '  call void asm sideeffect "cpuid", ""()'
 judge 'a line of the program' [ "$(retarget '  %r1 = add i64 %r0, 1')" = '  %r1 = add i64 %r0, 1' ]
 judge 'attributes' [ "$(retarget 'attributes #0 = { nounwind "target-cpu"="x86-64-v2" }')" = 'attributes #0 = { nounwind }' ]
 judge 'attributes of x86 alone' [ "$(retarget 'attributes #0 = { "target-cpu"="x86-64-v2" }')" = 'attributes #0 = { "none" }' ]
