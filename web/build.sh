@@ -54,11 +54,22 @@ step() {
 # The module of the proved program. `rattle build` proves the program once more over its libraries as they were built, and hands the module
 # to the clang of the folder that it is given; the one here hands it on as it is.
 lower() {
+    renew_libraries
     hand_on
     mapfile -t words < <(words_for_rattle)
     (cd crates/ninecheck && "$kit/bin/rattle" build "${words[@]}" --toolchain "$top/$work/hands_on" -o "$top/$work/module.bc") \
         > "$work/lower.log" 2>&1 || { cat "$work/lower.log" >&2; exit 1; }
     grep -q '^logic=proved ' "$work/lower.log" || { cat "$work/lower.log" >&2; exit 1; }
+}
+
+# Libraries that were built in a crate's folder have a stamp, and may be of an earlier state than the program: `rt lib` proves and builds
+# those again, and else does nothing. Those that the gate built have none, and are the program's own.
+renew_libraries() {
+    local library
+    compgen -G 'crates/*/out/rlib/stamp' > /dev/null || return 0
+    for library in $(sed -n 's/^ninecheck: *//p' crates.txt); do
+        (cd "crates/$library" && rt lib) > "$work/libraries.log" 2>&1 || { cat "$work/libraries.log" >&2; exit 1; }
+    done
 }
 
 # The folder of a toolchain whose clang hands on. It is started in an empty environment, so it finds nothing by a path.
