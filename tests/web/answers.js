@@ -8,7 +8,7 @@ const path = require('path');
 const { ask_module, ask_built, judge, tell_counts, module_of } = require('./asking.js');
 
 const [, , wasm, program, cases] = process.argv;
-const module = module_of(wasm);
+const asked = module_of(wasm);
 
 // What is asked of each capture; its name comes last.
 const OF_A_CAPTURE = [
@@ -36,7 +36,7 @@ const OTHERS = [
 
 // same WORDS FOLDER INPUT: both answer these words alike, in this folder and on this standard input.
 function same(words, folder, input) {
-    const came = ask_module(module, words, folder, input);
+    const came = ask_module(asked, words, folder, input);
     const wanted = ask_built(program, words, folder, input);
     const name = `${path.basename(folder)}: ${words.join(' ').slice(0, 100)}`;
     judge(name, came === wanted, `wanted ${wanted}`, `came ${came}`);
@@ -51,7 +51,7 @@ function copy_of(folder) {
 }
 const names_in = (folder, end) => fs.readdirSync(folder).filter(name => name.endsWith(end)).sort();
 
-function examples() {
+function all_examples() {
     const folder = copy_of('examples');
     for (const name of names_in(folder, '.csv')) for (const words of OF_A_CAPTURE) same([...words, name], folder);
     const views = path.join(folder, 'views');
@@ -65,7 +65,7 @@ function examples() {
     for (const words of OTHERS) same(words, folder);
 }
 
-function exports() {
+function all_exports() {
     const folder = copy_of('examples/exports');
     for (const name of fs.readdirSync(folder).sort()) for (const words of OF_AN_EXPORT) same([...words, name], folder);
 }
@@ -101,15 +101,15 @@ function all_cases() {
     judge(`cases: ${names.length}`, names.length > 400);
     for (const name of names) {
         const input = fs.readFileSync(name);
-        const asked = new Set(fs.readFileSync(name.replace(/csv$/, 'words'), 'utf8').trim().split('\n'));
-        asked.add(OF_A_CAPTURE[turn++ % (OF_A_CAPTURE.length - 1)].join(' '));
-        for (const words of asked) same(words.split(/ +/), room, input);
+        const lists = new Set(fs.readFileSync(name.replace(/csv$/, 'words'), 'utf8').trim().split('\n'));
+        lists.add(OF_A_CAPTURE[turn++ % (OF_A_CAPTURE.length - 1)].join(' '));
+        for (const words of lists) same(words.split(/ +/), room, input);
     }
 }
 
 try {
-    examples();
-    exports();
+    all_examples();
+    all_exports();
     taken_names();
     odd_names();
     all_cases();
