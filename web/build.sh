@@ -31,7 +31,7 @@ case ${1-} in
     *) echo 'usage: web/build.sh [lacks | stands]' >&2; exit 2 ;;
 esac
 if [ -n "$missing" ]; then
-    [ "${1-}" = stands ] || echo "$missing" | sed 's/^/the page for a browser is not made without /' >&2
+    [ "${1-}" = stands ] || while IFS= read -r it; do echo "the page for a browser is not made without $it"; done <<< "$missing" >&2
     exit 1
 fi
 kit=$(dirname "$(dirname "$(readlink -f "$(command -v rt)")")")
