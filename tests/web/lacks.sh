@@ -7,12 +7,12 @@ cd "$(dirname "$0")/../.." || exit 1
 # A copy of the script where nothing is built, and a path with no more than the script needs to say so.
 mkdir -p "$work/copy/crates/ninecheck/out" "$work/bin"
 cp -r web "$work/copy"
-for tool in bash dirname cat; do ln -s "$(command -v "$tool")" "$work/bin"; done
+for tool in bash dirname cat; do ln -s "$(type -P "$tool")" "$work/bin"; done
 
 # has TOOL...: these are on the path too.
 has() {
     local tool
-    for tool; do ln -s "$(command -v true)" "$work/bin/$tool"; done
+    for tool; do ln -s "$(type -P true)" "$work/bin/$tool"; done
 }
 
 # run_build WORDS...: leaves what it says in $work/out and $work/err.
@@ -37,7 +37,7 @@ expect 'what is missing' 0 'the proved program: run make first, it proves and bu
 has wasm-opt
 run_build
 expect 'nothing is proved' 1 '' "$without the proved program: run make first, it proves and builds it"
-ln -s "$(command -v true)" "$work/copy/crates/ninecheck/out/ninecheck"
+ln -s "$(type -P true)" "$work/copy/crates/ninecheck/out/ninecheck"
 run_build lacks
 expect 'nothing is missing' 0 '' ''
 run_build made
