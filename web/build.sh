@@ -134,13 +134,15 @@ step "$work/module.bc" 'the module of the proved program is made: about a minute
 step "$work/program.o" 'it is compiled for WebAssembly: about two minutes' compile "$work/module.bc" web/retarget.py
 step "$work/ninecheck.wasm" 'it is linked' link "$work/program.o" web/*.c web/integers.h web/untable.py
 
-# The page is packed in a second, so it is packed to be compared too.
+# The page is packed in a second, so it is packed to be compared too. Several scripts may ask at once.
 version=$(make/version.sh)
 page=out/ninecheck-$version.html
-python3 web/pack.py "$work/ninecheck.wasm" "$version" "$work/page.html"
+packed=$work/page-$$.html
+trap 'rm -f "$packed"' EXIT
+python3 -B web/pack.py "$work/ninecheck.wasm" "$version" "$packed"
 if [ -n "$only_asked" ]; then
-    cmp -s "$work/page.html" "$page"
+    cmp -s "$packed" "$page"
 else
-    mv "$work/page.html" "$page"
+    mv "$packed" "$page"
     echo "made: $page"
 fi
