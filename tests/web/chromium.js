@@ -4,8 +4,8 @@ const { spawn } = require('child_process'), fs = require('fs'), os = require('os
 
 const sleep = ms => new Promise(done => setTimeout(done, ms));
 const TURN_MS = 50;
-// A machine that is busy is waited for.
-const LIMIT_MS = 240000;
+// A machine that is busy is waited for, so many seconds.
+const LIMIT_MS = Number(process.env.PATIENCE || 120) * 1000;
 
 class Chromium {
     // Every address that was asked for, and what went wrong in the page.
@@ -50,6 +50,8 @@ class Chromium {
     note({ method, params }) {
         if (method === 'Network.requestWillBeSent') this.asked.push(params.request.url.slice(0, 60));
         else if (method === 'Log.entryAdded') this.wrong.push(params.entry.text);
+        else if (method === 'Tracing.dataCollected') this.tasks.push(...params.value);
+        else if (method === 'Tracing.tracingComplete') this.traced();
         else if (method === 'Runtime.exceptionThrown') {
             const { exception, text } = params.exceptionDetails;
             this.wrong.push(exception && exception.description || text);
@@ -75,9 +77,11 @@ class Chromium {
         return result.value;
     }
 
-    // Waits until the expression holds; false where it never does.
+    // Waits until the expression holds; false where it never does. Of a page that is not loaded yet nothing holds.
     async until(expression, limit = LIMIT_MS) {
-        for (const end = Date.now() + limit; Date.now() < end; await sleep(TURN_MS)) if (await this.value(expression)) return true;
+        for (const end = Date.now() + limit; Date.now() < end; await sleep(TURN_MS)) {
+            if (await this.value(expression).catch(() => false)) return true;
+        }
         return false;
     }
 
@@ -88,10 +92,17 @@ class Chromium {
         await this.send('DOM.setFileInputFiles', { nodeId, files: files.map(it => path.resolve(it)) });
     }
 
-    // As if these files were dropped on the page.
+    // As if these files were dropped on the page. Where a frame has just come, the browser may not know yet what is at a place: so it is
+    // dropped again where the page was told of none.
     async drop(files, x = 200, y = 60) {
         const data = { items: [], files: files.map(it => path.resolve(it)), dragOperationsMask: 1 };
-        for (const type of ['dragEnter', 'dragOver', 'drop']) await this.send('Input.dispatchDragEvent', { type, x, y, data });
+        await this.value("if (!('drops' in window)) { window.drops = 0; addEventListener('drop', () => { window.drops++; }, true); }");
+        const before = await this.value('window.drops');
+        for (let tries = 0; tries < 5; tries++) {
+            for (const type of ['dragEnter', 'dragOver', 'drop']) await this.send('Input.dispatchDragEvent', { type, x, y, data });
+            if (await this.until(`window.drops > ${before}`, 2000)) return;
+        }
+        throw new Error('no drop came to the page');
     }
 
     // A key, such as 'Tab', 'Enter' or 'a', as a hand presses it.
@@ -117,6 +128,22 @@ class Chromium {
 
     async dark(is_dark) {
         await this.send('Emulation.setEmulatedMedia', { features: [{ name: 'prefers-color-scheme', value: is_dark ? 'dark' : 'light' }] });
+    }
+
+    // Notes each task of the page's main thread, until longest_task.
+    async begin_trace() {
+        this.tasks = [];
+        await this.send('Tracing.start', { traceConfig: { includedCategories: ['toplevel', 'disabled-by-default-devtools.timeline'] }, transferMode: 'ReportEvents' });
+    }
+
+    // The processor time in milliseconds of the longest task since: of the page's main thread, so that a machine that is busy is not counted.
+    async longest_task() {
+        const complete = new Promise(done => { this.traced = done; });
+        await this.send('Tracing.end');
+        await complete;
+        const main = new Set(this.tasks.filter(it => it.name === 'thread_name' && it.args.name === 'CrRendererMain').map(it => `${it.pid}/${it.tid}`));
+        const tasks = this.tasks.filter(it => /RunTask$/.test(it.name) && main.has(`${it.pid}/${it.tid}`));
+        return Math.max(0, ...tasks.map(it => it.tdur ?? it.dur ?? 0)) / 1000;
     }
 
     async shot(file) {

@@ -2,7 +2,7 @@
 // The worker that runs the program. Askings stand in a queue and run one at a time. To cancel, the worker is ended, and another one begins
 // with the module that is kept.
 
-const asking = { module: null, address: '', worker: null, is_ready: false, queue: [], now: null, last: 0, show: null };
+const asking = { module: null, address: '', worker: null, is_ready: false, queue: [], now: null, last: 0, show: null, fails: '' };
 
 class Cancelled extends Error {}
 
@@ -28,14 +28,14 @@ async function start_asking(show) {
     asking.show = show;
     asking.module = await module_of_page();
     asking.address = URL.createObjectURL(new Blob([element('worker').textContent], { type: 'text/javascript' }));
-    await new Promise((ready, failed) => start_worker(ready, failed));
+    await new Promise(start_worker);
 }
 
 function start_worker(ready = () => {}, failed = () => {}) {
     asking.is_ready = false;
     asking.worker = new Worker(asking.address);
     asking.worker.onmessage = ({ data }) => {
-        if (data.error) return failed(new Error(data.error));
+        if (data.error) failed(new Error(data.error));
         if (!data.ready) return hear(data);
         asking.is_ready = true;
         ready();
@@ -53,7 +53,7 @@ function restart_worker() {
     start_worker();
 }
 
-// ask(words, files, is_next): a promise of {status, out, err, ms, ..}; a Fault or Cancelled is thrown. is_next: before all that wait.
+// ask(words, files, is_next): a promise of {status, out, err, ms}; a Fault or Cancelled is thrown. is_next: before all that wait.
 function ask(words, files, is_next = false) {
     return new Promise((resolve, reject) => {
         const it = { words, files, resolve, reject };
@@ -63,19 +63,12 @@ function ask(words, files, is_next = false) {
     });
 }
 
-// hurry(words): where this waits, it is next.
-function hurry(words) {
-    const is_it = it => it.words.join('\0') === words.join('\0');
-    const at = asking.queue.findIndex(is_it);
-    if (at > 0) asking.queue.unshift(...asking.queue.splice(at, 1));
-}
-
 function begin_next() {
     if (asking.now || !asking.is_ready || asking.queue.length === 0) return;
     asking.now = { ...asking.queue.shift(), id: ++asking.last, begun: performance.now() };
     const { id, words, files } = asking.now;
     asking.show(asking.now, null);
-    asking.worker.postMessage({ id, words, files, input: null });
+    asking.worker.postMessage({ id, words, files: files.map(({ name, file }) => ({ name, file })), input: null });
 }
 
 function hear(data) {
@@ -86,18 +79,15 @@ function hear(data) {
         return;
     }
     asking.now = null;
-    if (data.fault) {
-        // The memory that it had is free only once the worker has ended.
-        restart_worker();
-        now.reject(new Fault(data.fault));
-    } else {
-        now.resolve(data);
-    }
+    // The memory that a fault leaves is free only once the worker has ended.
+    if (data.fault) restart_worker();
+    if (data.fault) now.reject(new Fault(data.fault));
+    else now.resolve(data);
     begin_next();
     if (!asking.now) asking.show(null, null);
 }
 
-// cancel(): nothing is asked any more; true where something was.
+// Nothing is asked any more.
 function cancel() {
     const ended = [asking.now, ...asking.queue].filter(it => it);
     if (asking.now) restart_worker();
@@ -105,5 +95,4 @@ function cancel() {
     asking.queue = [];
     for (const it of ended) it.reject(new Cancelled());
     asking.show(null, null);
-    return ended.length > 0;
 }

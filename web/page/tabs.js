@@ -13,32 +13,30 @@ const TABS = [
     { view: 'picture', title: 'Picture', ending: '.svg', type: 'image/svg+xml' },
     { view: 'info', title: 'About the capture', ending: '-info.txt' },
 ];
-const JSON_TAB = { view: 'json', ending: '.json' };
+const JSON_LINES = { view: 'json', ending: '.json' };
 
 // So many lines of a text are shown at a time.
 const LINES = 5000;
 
-const tabs = { open: TABS[0], shown: null, address: '', begins: [0] };
+// begins: where the pieces of the text begin that were shown, up to the one that is.
+const tabs = { open: TABS[0], framed: null, address: '', bytes: null, begins: [0], end: 0 };
 
 function start_tabs() {
-    const list = element('tabs');
-    for (const tab of TABS) {
-        const button = make_button(tab.title, () => open_tab(tab), { role: 'tab', id: `tab-${tab.view}`, 'aria-controls': 'panel' });
-        list.append(button);
-    }
-    list.addEventListener('keydown', move_focus);
+    const tab_of = tab => make_button(tab.title, () => open_tab(tab), { role: 'tab', id: `tab-${tab.view}`, 'aria-controls': 'panel' });
+    element('tabs').append(...TABS.map(tab_of));
+    element('tabs').addEventListener('keydown', move_focus);
     mark_open();
-    element('json').addEventListener('click', () => save_view(JSON_TAB));
+    element('json').addEventListener('click', () => save_view(JSON_LINES));
     element('save-page').addEventListener('click', () => save_view(TABS[0]));
-    element('before').addEventListener('click', () => turn(-1));
-    element('after').addEventListener('click', () => turn(1));
+    element('before').addEventListener('click', () => turn(() => tabs.begins.pop()));
+    element('after').addEventListener('click', () => turn(() => tabs.begins.push(tabs.end)));
 }
 
 // Arrows go from tab to tab; Enter or the space bar opens the one that has the focus.
 function move_focus(event) {
     const all = [...element('tabs').children], at = all.indexOf(document.activeElement);
     const to = { ArrowRight: at + 1, ArrowLeft: at - 1 + all.length, Home: 0, End: all.length - 1 }[event.key];
-    if (to === undefined || at < 0) return;
+    if (to === undefined) return;
     event.preventDefault();
     all[to % all.length].focus();
 }
@@ -69,26 +67,26 @@ function clear_panel() {
 // Shows the view of the open tab, once it has come.
 async function show_tab(is_next = false) {
     const tab = tabs.open, { terms, capture } = session;
-    const words = words_of(tab.view, terms, capture);
-    show_command(tab, words);
+    const command = command_of(words_of(tab.view, terms, capture), tab.type ? saved_name(capture.name, tab.ending) : '');
+    const save_it = make_button('Save', () => save_view(tab), { 'aria-label': `Save: ${tab.title}` });
+    element('panel-command').replaceChildren(command_row(command, save_it));
     let said;
     try {
         said = await answer_to(tab.view, is_next);
     } catch (fault) {
-        if (tab === tabs.open) show_no_answer(fault);
+        if (tab === tabs.open && terms === session.terms) show_no_answer(fault);
         throw fault;
     }
     if (tab !== tabs.open || terms !== session.terms) return;
     element('panel').setAttribute('aria-busy', 'false');
-    element('panel-note').textContent = `${status_text(said)}, ${seconds_text(said.ms)}, ${size_text(said.out.length)}`;
-    show_said(said);
+    element('panel-note').textContent = `${status_text(said, tab.view)}, ${seconds_text(said.ms)}, ${size_text(said.out.length)}`;
+    element('panel-said').textContent = text_of(said.err);
+    element('panel-said').hidden = said.err.length === 0;
     if (said.out.length === 0) return;
     if (tab.view === 'page') await show_frame(said);
     else if (tab.view === 'picture') show_picture(said);
     else show_text(said.out);
 }
-
-const status_text = said => `Status ${said.status}: ${STATUS[said.status]}`;
 
 function show_no_answer(fault) {
     element('panel').setAttribute('aria-busy', 'false');
@@ -96,24 +94,12 @@ function show_no_answer(fault) {
     element('panel-command').append(make_button('Ask', () => open_tab(tabs.open)));
 }
 
-function show_command(tab, words) {
-    const row = command_row(command_of(words, tab.type ? saved_name(session.capture.name, tab.ending) : ''));
-    row.append(make_button('Save', () => save_view(tab), { 'aria-label': `Save: ${tab.title}` }));
-    element('panel-command').replaceChildren(row);
-}
-
-// What stands on standard error.
-function show_said(said) {
-    element('panel-said').textContent = text_of(said.err);
-    element('panel-said').hidden = said.err.length === 0;
-}
-
 // The session page, in a frame that runs no script.
 function show_frame(said) {
     const frame = element('frame');
     frame.hidden = false;
-    if (tabs.shown === said) return null;
-    tabs.shown = said;
+    if (tabs.framed === said) return null;
+    tabs.framed = said;
     URL.revokeObjectURL(tabs.address);
     tabs.address = URL.createObjectURL(new Blob([said.out], { type: 'text/html' }));
     return new Promise(done => {
@@ -123,20 +109,18 @@ function show_frame(said) {
 }
 
 function show_picture(said) {
-    const picture = element('picture');
-    picture.src = URL.createObjectURL(new Blob([said.out], { type: 'image/svg+xml' }));
-    picture.alt = `The record that breaks a rule, as a picture: ${element('verdict').textContent}`;
-    picture.hidden = false;
+    const src = URL.createObjectURL(new Blob([said.out], { type: 'image/svg+xml' }));
+    element('picture').replaceChildren(make('img', { src, alt: `What breaks a rule, as a picture: ${element('verdict').textContent}` }));
+    element('picture').hidden = false;
 }
 
 function show_text(bytes) {
-    tabs.bytes = bytes;
-    tabs.begins = [0];
+    Object.assign(tabs, { bytes, begins: [0] });
     element('text').hidden = false;
     show_piece();
 }
 
-// Where the piece that begins here ends.
+// Where the piece of a text that begins here ends.
 function piece_end(bytes, begin) {
     let at = begin;
     for (let lines = 0; lines < LINES; lines++) {
@@ -148,32 +132,27 @@ function piece_end(bytes, begin) {
 }
 
 function show_piece() {
-    const { bytes, begins } = tabs;
-    const begin = begins[begins.length - 1], end = piece_end(bytes, begin);
+    const { bytes, begins } = tabs, begin = begins[begins.length - 1], end = piece_end(bytes, begin);
+    tabs.end = end;
     element('text').textContent = text_of(bytes.subarray(begin, end));
     element('text').scrollTop = 0;
-    const first = (begins.length - 1) * LINES;
-    const is_whole = begin === 0 && end === bytes.length;
-    element('pieces').hidden = is_whole;
-    const last = end < bytes.length ? grouped(first + LINES) : 'the end';
+    element('pieces').hidden = begin === 0 && end === bytes.length;
+    const first = (begins.length - 1) * LINES, last = end < bytes.length ? grouped(first + LINES) : 'the end';
     element('piece-note').textContent = `Lines ${grouped(first + 1)} to ${last} of ${size_text(bytes.length)}. Save has all.`;
-    element('before').disabled = begins.length === 1;
+    element('before').disabled = begin === 0;
     element('after').disabled = end === bytes.length;
-    tabs.end = end;
 }
 
-function turn(by) {
-    if (by > 0) tabs.begins.push(tabs.end);
-    else tabs.begins.pop();
+function turn(change) {
+    change();
     show_piece();
 }
 
 async function save_view(tab) {
-    const name = saved_name(session.capture.name, tab.ending);
     try {
         const said = await answer_to(tab.view, true);
-        if (said.out.length === 0) tell_refusal(said, words_of(tab.view, session.terms, session.capture));
-        else save(name, [said.out], tab.type || 'text/plain');
+        if (said.out.length === 0) tell_refusal(said, words_of(tab.view, session.terms, session.capture), tab.view);
+        else save(saved_name(session.capture.name, tab.ending), said.out, tab.type || 'text/plain');
     } catch (fault) {
         tell_fault(fault, session.capture.name);
     }

@@ -1,27 +1,18 @@
 'use strict';
-// Words of a command line, times and sizes, and what a status means. All scripts of the page are one script, in the order of their names;
-// main.js begins once all of them are there.
+// Words of a command line, times and sizes, and what a status means. All files here are one script, in the order of their names; main.js
+// begins once all of it is there.
 
 // Which of the terms each subcommand takes.
-const JUDGING = ['all', 'hands', 'sync', 'rate', 'sheet'];
+const JUDGING = ['all', 'hands', 'sync', 'rate', 'sheet'], SHOWING = [...JUDGING, 'stretch'];
 const TAKES = {
-    check: JUDGING, why: JUDGING, explain: JUDGING, picture: JUDGING,
-    digest: [...JUDGING, 'stretch'], motion: [...JUDGING, 'stretch'], delays: [...JUDGING, 'stretch'], json: [...JUDGING, 'stretch'],
-    page: ['hands', 'sync', 'rate', 'sheet', 'stretch'],
-    run: ['hands', 'sync', 'rate', 'sheet'],
-    touches: ['sync', 'rate', 'sheet'],
-    try: ['all', 'sync', 'rate', 'sheet'],
-    info: ['sync', 'rate'],
+    check: JUDGING, why: JUDGING, explain: JUDGING, picture: JUDGING, digest: SHOWING, motion: SHOWING, delays: SHOWING, json: SHOWING,
+    page: ['hands', 'sync', 'rate', 'sheet', 'stretch'], run: ['hands', 'sync', 'rate', 'sheet'],
+    touches: ['sync', 'rate', 'sheet'], try: ['all', 'sync', 'rate', 'sheet'], info: ['sync', 'rate'],
 };
 
-const STATUS = {
-    0: 'yes',
-    1: 'no',
-    2: 'the program does not take these words',
-    3: 'the file can’t be read as what it should be',
-    4: 'the file can’t be read or written',
-    5: 'there was not enough memory',
-};
+const STATUS = ['yes', 'no', 'the program does not take these words', 'this can’t be read', 'this can’t be opened or read to its end', 'not enough memory'];
+const STATUS_OF = { info: ['the capture can be read'], picture: ['', 'the picture of a no', 'there is nothing to draw'] };
+const status_text = (said, view) => `Status ${said.status}: ${(STATUS_OF[view] || STATUS)[said.status] || STATUS[said.status]}`;
 
 function element(id) {
     return document.getElementById(id);
@@ -45,57 +36,42 @@ function make_button(text, act, attributes = {}) {
 // A word that does not look like an option.
 const file_word = name => name.startsWith('-') ? './' + name : name;
 
-// What a file name is to the program: text without a half of a pair.
-const name_of = file => new TextDecoder().decode(new TextEncoder().encode(file.name));
+// A file under the name that the program gets: text without a half of a pair.
+const named = file => ({ name: file_word(new TextDecoder().decode(new TextEncoder().encode(file.name))), file });
 
 // words_of('why', terms, capture): the words that ask so.
 function words_of(view, terms, capture) {
-    const takes = TAKES[view], words = [view];
-    if (takes.includes('all') && terms.all) words.push('--all');
-    if (takes.includes('hands') && terms.hands) words.push('--hands');
-    if (takes.includes('sync') && terms.sync) words.push('--sync');
-    if (takes.includes('rate') && terms.rate !== '25') words.push('--rate', terms.rate);
-    if (takes.includes('sheet') && terms.sheet) words.push('--deck', file_word(terms.sheet.name));
-    if (takes.includes('stretch') && terms.from) words.push('--from', terms.from);
-    if (takes.includes('stretch') && terms.to) words.push('--to', terms.to);
-    return [...words, file_word(capture.name)];
+    const takes = term => TAKES[view].includes(term) && terms[term];
+    const words = [view, ...['all', 'hands', 'sync'].filter(takes).map(term => `--${term}`)];
+    if (takes('rate') && terms.rate !== '25') words.push('--rate', terms.rate);
+    if (takes('sheet')) words.push('--deck', terms.sheet.name);
+    if (TAKES[view].includes('stretch')) for (const end of ['from', 'to']) if (terms[end]) words.push(`--${end}`, terms[end]);
+    return [...words, capture.name];
 }
 
-// The files that an asking sees.
-function files_of(terms, capture) {
-    const files = [{ name: file_word(capture.name), file: capture.file }];
-    if (terms.sheet) files.push({ name: file_word(terms.sheet.name), file: terms.sheet.file });
-    return files;
-}
+const files_of = (terms, capture) => terms.sheet ? [capture, terms.sheet] : [capture];
 
 function quoted(word) {
+    const control = /[^\P{Cc}]/gu;
     if (/^[\w@%+=:,./-]+$/.test(word)) return word;
-    // eslint-disable-next-line no-control-regex
-    const control = /[\u0000-\u001f\u007f]/g;
     if (!control.test(word)) return `'${word.replaceAll("'", "'\\''")}'`;
-    const escaped = word.replace(/['\\]/g, '\\$&').replace(control, c => '\\x' + c.charCodeAt(0).toString(16).padStart(2, '0'));
-    return `$'${escaped}'`;
+    const code = c => '\\x' + c.charCodeAt(0).toString(16).padStart(2, '0');
+    return `$'${word.replace(/['\\]/g, '\\$&').replace(control, code)}'`;
 }
 
 // The command line for a shell.
-function command_of(words, to = '') {
-    return ['ninecheck', ...words].map(quoted).join(' ') + (to ? ` > ${quoted(file_word(to))}` : '');
-}
-
-const two = n => String(n).padStart(2, '0');
+const command_of = (words, to = '') => ['ninecheck', ...words].map(quoted).join(' ') + (to ? ` > ${quoted(to)}` : '');
 
 // A time as a clock, with so many decimals, cut and not rounded.
 function clock_of(us, decimals = 3) {
-    const seconds = Math.floor(us / 1e6);
-    const rest = String(us % 1e6).padStart(6, '0').slice(0, decimals);
-    return `${two(Math.floor(seconds / 3600))}:${two(Math.floor(seconds / 60) % 60)}:${two(seconds % 60)}.${rest}`;
+    const seconds = Math.floor(us / 1e6), rest = String(us % 1e6).padStart(6, '0').slice(0, decimals);
+    const parts = [Math.floor(seconds / 3600), Math.floor(seconds / 60) % 60, seconds % 60];
+    return `${parts.map(n => String(n).padStart(2, '0')).join(':')}.${rest}`;
 }
 
 const grouped = n => String(n).replace(/\B(?=(\d{3})+$)/g, ',');
-
+const seconds_text = ms => ms < 100 ? `${Math.ceil(ms)} ms` : `${(ms / 1000).toFixed(1)} s`;
 function size_text(bytes) {
-    if (bytes < 1e4) return `${grouped(bytes)} bytes`;
-    return bytes < 1e6 ? `${(bytes / 1e3).toFixed(0)} kB` : `${(bytes / 1e6).toFixed(1)} MB`;
+    if (bytes < 1e6) return bytes < 1e4 ? `${grouped(bytes)} bytes` : `${(bytes / 1e3).toFixed(0)} kB`;
+    return `${(bytes / 1e6).toFixed(1)} MB`;
 }
-
-const seconds_text = ms => ms < 9950 ? `${(ms / 1000).toFixed(1)} s` : `${Math.round(ms / 1000)} s`;
