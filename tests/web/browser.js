@@ -273,7 +273,7 @@ async function long() {
     judge(`no task of the page takes 100 ms: ${longest.toFixed(1)} ms`, longest > 0 && longest < 100);
     judge('a long capture', (await text('totals')).startsWith('breaks 0: records '));
     const notes = await browser.value('seen');
-    judge('how far it is', notes.some(it => / MB of .* MB read, /.test(it)), notes.slice(0, 5));
+    judge('how far it is', notes.some(it => / of .* MB read, /.test(it)), notes.slice(0, 5));
     await open_tab('explain');
     const whole = built(['explain', '--all', 'long.csv'], work).stdout, lines = whole.split('\n');
     equals('a piece of a long text', await text('text'), lines.slice(0, 5000).join('\n') + '\n');

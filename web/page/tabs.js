@@ -15,8 +15,8 @@ const TABS = [
 ];
 const JSON_LINES = { view: 'json', ending: '.json' };
 
-// So many lines of a text are shown at a time.
-const LINES = 5000;
+// So many lines of a text are shown at a time, in blocks of so many: the browser lays out those blocks alone that are in sight.
+const LINES = 5000, BLOCK_LINES = 250;
 
 // begins: where the pieces of the text begin that were shown, up to the one that is.
 const tabs = { open: TABS[0], framed: null, address: '', bytes: null, begins: [0], end: 0 };
@@ -120,10 +120,10 @@ function show_text(bytes) {
     show_piece();
 }
 
-// Where the piece of a text that begins here ends.
-function piece_end(bytes, begin) {
+// Where so many lines of a text end that begin here.
+function end_of(bytes, begin, count) {
     let at = begin;
-    for (let lines = 0; lines < LINES; lines++) {
+    for (let lines = 0; lines < count; lines++) {
         const end = bytes.indexOf(10, at);
         if (end < 0) return bytes.length;
         at = end + 1;
@@ -132,9 +132,13 @@ function piece_end(bytes, begin) {
 }
 
 function show_piece() {
-    const { bytes, begins } = tabs, begin = begins[begins.length - 1], end = piece_end(bytes, begin);
+    const { bytes, begins } = tabs, begin = begins[begins.length - 1], end = end_of(bytes, begin, LINES), blocks = [];
     tabs.end = end;
-    element('text').textContent = text_of(bytes.subarray(begin, end));
+    for (let at = begin, next; at < end; at = next) {
+        next = end_of(bytes, at, BLOCK_LINES);
+        blocks.push(make('span', {}, text_of(bytes.subarray(at, next))));
+    }
+    element('text').replaceChildren(...blocks);
     element('text').scrollTop = 0;
     element('pieces').hidden = begin === 0 && end === bytes.length;
     const first = (begins.length - 1) * LINES, last = end < bytes.length ? grouped(first + LINES) : 'the end';
