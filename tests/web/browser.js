@@ -10,7 +10,8 @@ const { judge, tell_counts } = require('./asking.js');
 
 const [, , page, program, work] = process.argv;
 const EXAMPLES = path.resolve('examples');
-const IDLE = "document.getElementById('working').hidden && document.getElementById('panel').getAttribute('aria-busy') === 'false'";
+const QUIET = "asking.now === null && asking.queue.length === 0 && document.getElementById('next').getAttribute('aria-busy') !== 'true'";
+const IDLE = `${QUIET} && document.getElementById('working').hidden && document.getElementById('panel').getAttribute('aria-busy') === 'false'`;
 const ANSWERED = `!document.getElementById('answer').hidden && ${IDLE}`;
 let browser;
 
@@ -32,6 +33,7 @@ async function open_page() {
 
 // Drops these files, and waits until all that is asked then is answered.
 async function drop(...files) {
+    await browser.until(QUIET);
     await browser.value("document.getElementById('verdict').textContent = ''");
     await browser.drop(files);
     judge(`an answer to ${files.map(it => path.basename(it))}`, await browser.until(`document.getElementById('verdict').textContent !== '' && ${ANSWERED}`));
@@ -291,6 +293,14 @@ async function long() {
     equals('a cancel', await cancelled, 'Cancelled. The last answer stands.');
     judge('nothing works any more', await browser.until("document.getElementById('working').hidden && asking.is_ready && asking.now === null"));
     judge('the last answer stands', (await text('file')).startsWith('play.csv'));
+    const wait = "new Promise(done => { const timer = setInterval(() => { if (document.getElementById('working-what').textContent.includes(' info long.csv')) { clearInterval(timer); document.getElementById('cancel').click(); done(); } }, 1); })";
+    const second = browser.value(wait);
+    await browser.drop([file]);
+    await second;
+    judge('a cancel behind the verdict', await browser.until("document.getElementById('panel-note').textContent === 'Cancelled.'"));
+    judge('which stands', (await text('file')).startsWith('long.csv'));
+    await browser.value("document.querySelector('#panel-command button:last-child').click()");
+    judge('its view can be asked again', await browser.until(`${IDLE} && document.getElementById('panel-note').textContent.startsWith('Status 0: yes')`));
     await drop(example('late-reply.csv'));
     judge('and the next is answered', (await text('verdict')).startsWith('No at record 4'));
 }
@@ -331,8 +341,9 @@ async function keys() {
     judge('a stretch by the mouse', await browser.until(`document.getElementById('from').value === '00:00:00.003100' && document.getElementById('to').value === '00:00:00.005800' && ${IDLE}`));
     await open_tab('digest');
     equals('is shown', await text('text'), built(['digest', '--all', '--from', '0.0031', '--to', '0.0058', 'disputed-in-point.csv']).stdout);
-    await click('whole');
-    await browser.until(`document.getElementById('from').value === '' && ${IDLE}`);
+    await browser.key('Escape');
+    judge('and given back whole', await browser.until(`document.getElementById('from').value === '' && ${IDLE}`));
+    equals('as before', await text('text'), built(['digest', '--all', 'disputed-in-point.csv']).stdout);
 }
 
 // ---- Form: contrast, names of controls, widths, and addresses.

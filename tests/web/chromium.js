@@ -92,14 +92,16 @@ class Chromium {
         await this.send('DOM.setFileInputFiles', { nodeId, files: files.map(it => path.resolve(it)) });
     }
 
-    // As if these files were dropped on the page. Where a frame has just come, the browser may not know yet what is at a place: so it is
-    // dropped again where the page was told of none.
+    // As if these files were dropped on the page, which the mouse enters at its edge. Where a frame has just come, the browser may not know yet
+    // what is at a place: so they are dropped again where the page was told of none.
     async drop(files, x = 200, y = 60) {
         const data = { items: [], files: files.map(it => path.resolve(it)), dragOperationsMask: 1 };
         await this.value("if (!('drops' in window)) { window.drops = 0; addEventListener('drop', () => { window.drops++; }, true); }");
         const before = await this.value('window.drops');
         for (let tries = 0; tries < 5; tries++) {
-            for (const type of ['dragEnter', 'dragOver', 'drop']) await this.send('Input.dispatchDragEvent', { type, x, y, data });
+            for (const [type, at, down] of [['dragEnter', 5, 5], ['dragOver', 5, 5], ['dragOver', x, y], ['drop', x, y]]) {
+                await this.send('Input.dispatchDragEvent', { type, x: at, y: down, data });
+            }
             if (await this.until(`window.drops > ${before}`, 2000)) return;
         }
         throw new Error('no drop came to the page');

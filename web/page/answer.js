@@ -1,8 +1,9 @@
 'use strict';
 // The answer in one line, with what its reason means, what the capture says of itself, and what to ask next.
 
-// What stands on the page: a capture, the terms that it was judged with, its first break, and what was asked of it with these terms.
-const session = { capture: null, terms: null, record: null, answers: new Map() };
+// What stands on the page: a capture, the terms that it was judged with, its first break, and what was asked of it with these terms. asked: the
+// terms that are asked with now.
+const session = { capture: null, terms: null, asked: null, record: null, answers: new Map() };
 
 const REASONS = JSON.parse(element('reasons').textContent);
 // So many bytes of an answer's beginning and end are looked at for a line.
@@ -12,6 +13,8 @@ const LINE = 200;
 async function judge(capture, terms) {
     cancel();
     close_message();
+    session.asked = terms;
+    element('next').setAttribute('aria-busy', 'true');
     const words = words_of('check', terms, capture), is_new = capture !== session.capture;
     const answers = is_new ? new Map() : session.answers;
     try {
@@ -28,7 +31,10 @@ async function judge(capture, terms) {
         if (is_new) element('answer').scrollIntoView({ block: 'nearest' });
         await follow_up(said.status);
     } catch (fault) {
+        if (session.terms === terms) show_no_answer(fault);
         tell_fault(fault, capture.name);
+    } finally {
+        if (session.asked === terms) element('next').setAttribute('aria-busy', 'false');
     }
 }
 
@@ -121,8 +127,12 @@ function show_advice(line) {
 }
 
 async function swap_and_ask(capture) {
-    if (capture.swap) capture.swap();
-    else judge(await swapped(capture), read_terms());
+    try {
+        if (capture.swap) capture.swap();
+        else judge(await swapped(capture), read_terms());
+    } catch (fault) {
+        tell_fault(fault, capture.name);
+    }
 }
 
 // The terms that a line says to ask with. A yes is with no more than it names.

@@ -65,7 +65,8 @@ function log_lines(text) {
 function saleae_lines(text) {
     const plain = field => field.replace(/,$/, '').replace(/^"(.*)"$/, '$1').replaceAll('""', '"');
     const rows = text.split(/\r?\n/).map(line => (line.match(/("([^"]|"")*"|[^,]*)(,|$)/g) || []).map(plain));
-    const [name, time] = [['name', 'Analyzer Name'], ['start_time', 'Time [s]']].map(titles => rows[0].findIndex(it => titles.includes(it)));
+    const titles = [['name', 'Analyzer Name'], ['start_time', 'Time [s]']];
+    const [name, time] = titles.map(either => rows[0].findIndex(it => either.includes(it)));
     return rows.slice(1).filter(row => name >= 0 && row[name] && row[time]).map(row => ({ time: row[time], name: row[name] }));
 }
 
@@ -78,8 +79,8 @@ function name_fields(lines, what) {
     const first = lines.reduce((best, it) => Number(it.time) < Number(best.time) ? it : best).name;
     const deck = names.find(is_deck) || names.find(it => it !== first);
     const controller = deck === first ? names.find(it => it !== deck) : first;
-    const choices = names.map(it => [it, it]);
-    return [choice_field('--controller', `The controller’s ${what}`, choices, controller), choice_field('--deck', `The deck’s ${what}`, choices, deck)];
+    const field = (option, whose, value) => choice_field(option, `${whose} ${what}`, names.map(it => [it, it]), value);
+    return [field('--controller', 'The controller’s', controller), field('--deck', 'The deck’s', deck)];
 }
 
 function choice_field(option, title, choices, value) {

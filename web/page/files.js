@@ -60,6 +60,7 @@ function take_sorted(sorted) {
         tell_message('These exports do not belong together', 'Drop one export, or the two of the controller’s wire and the deck’s.');
     } else {
         if (sheets.length) take_sheet(sheets[0]);
+        if (captures.length) element('export').hidden = true;
         if (exported.length) ask_export(exported);
         else if (captures.length || session.capture) judge(captures.length ? captures[0] : session.capture, read_terms());
         else tell_message('The sheet is taken', `The next capture is judged with ${sheets[0].name}.`);
@@ -77,6 +78,6 @@ async function swapped({ name, file }) {
         rest = lines.pop();
         parts.push(swap(lines.join('\n') + '\n'));
     }
-    const to = saved_name(name, '-swapped.csv');
-    return { name: to, file: new File([...parts, swap(rest)], to), made_by: `sed 's/,C,/,X,/; s/,D,/,C,/; s/,X,/,D,/' ${quoted(name)} > ${quoted(to)}` };
+    const to = saved_name(name, '-swapped.csv'), made_by = `sed 's/,C,/,X,/; s/,D,/,C,/; s/,X,/,D,/' ${quoted(name)} > ${quoted(to)}`;
+    return { name: to, file: new File([...parts, swap(rest)], to), made_by };
 }

@@ -1,8 +1,8 @@
 'use strict';
 // What begins it all, and what the page says of its own state.
 
-const NO_PROGRAM = 'This browser can’t run the program: it needs WebAssembly, which may also be switched off. Use a newer Chrome, Edge, '
-    + 'Firefox or Safari, or the program itself on Linux.';
+const NO_PROGRAM = 'This browser can’t run the program: it needs WebAssembly, which may also be switched off. Use a newer Chrome, '
+    + 'Edge, Firefox or Safari, or the program itself on Linux.';
 const FAULTS = {
     memory: ['The browser gave the program no more memory', 'Close other tabs and ask again, or cut the capture into parts with the program on '
         + 'Linux (ninecheck split --to part FILE) and drop one of them. The verdict needs a few megabytes however long the capture is; the '
@@ -38,13 +38,15 @@ function close_message() {
 
 // The program's own message, as it is.
 function tell_refusal(said, words, view) {
-    tell_message(status_text(said, view), said.status === 5 ? FAULTS.memory[1] : '', text_of(said.err) || text_of(said.out), command_of(words));
+    const advice = said.status === 5 ? FAULTS.memory[1] : '';
+    tell_message(status_text(said, view), advice, text_of(said.err) || text_of(said.out), command_of(words));
 }
 
 function tell_fault(fault, name) {
     if (fault instanceof Cancelled) return;
-    if (!(fault instanceof Fault)) throw fault;
-    const [title, text] = FAULTS[fault.kind] || FAULTS.program;
+    // A DOMException is of a file that the page itself reads.
+    if (!(fault instanceof Fault || fault instanceof DOMException)) throw fault;
+    const [title, text] = FAULTS[fault instanceof Fault ? fault.kind : 'file'] || FAULTS.program;
     tell_message(`${title}: ${name}`, text, fault.message);
 }
 
@@ -66,7 +68,7 @@ function tick() {
     element('working-note').textContent = read + seconds_text(performance.now() - now.begun);
 }
 
-// A file may be dropped anywhere on the page. Over the frame of the session page too: while a file is dragged the frame lets the mouse through.
+// A file may be dropped anywhere on the page, over the frame of the session page too: while it is dragged the frame lets the mouse through.
 function start_drops() {
     const over = is_over => event => {
         event.preventDefault();

@@ -7,8 +7,9 @@ const KEYS = { ArrowRight: 5, ArrowUp: 5, ArrowLeft: -5, ArrowDown: -5, PageUp: 
 // After so long without a key the stretch is asked for.
 const PAUSE_MS = 600;
 
-// first, last: the ends of the session in microseconds; from, to: those of the stretch in steps; anchor: where the mouse was pressed.
-const strip = { first: 0, last: 0, from: 0, to: STEPS, drawn: null, anchor: null, timer: 0 };
+// first, last: the ends of the session in microseconds; from, to: those of the stretch in steps; of, drawn: the
+// capture and the session page that are drawn; anchor: where the mouse was pressed.
+const strip = { first: 0, last: 0, from: 0, to: STEPS, of: null, drawn: null, anchor: null, timer: 0 };
 
 function start_strip() {
     const ground = element('strip');
@@ -25,12 +26,16 @@ function start_strip() {
         if (is_drawn) ask_stretch();
     });
     for (const end of ['from', 'to']) element(`strip-${end}`).addEventListener('keydown', event => move_end(event, end));
-    element('stretch').addEventListener('keydown', event => {
-        if (event.key === 'Escape') give_back_whole();
+    addEventListener('keydown', event => {
+        if (event.key === 'Escape' && !is_whole()) give_back_whole();
     });
-    element('whole').addEventListener('click', give_back_whole);
+    element('whole').addEventListener('click', () => {
+        give_back_whole();
+        element('strip-from').focus();
+    });
 }
 
+const is_whole = () => strip.from === 0 && strip.to === STEPS;
 const inside = step => Math.min(STEPS, Math.max(0, Math.round(step)));
 
 function step_at(event) {
@@ -47,6 +52,8 @@ function begin_strip(info) {
     element('strip-end').textContent = clock_of(strip.last);
     const { from, to } = session.terms;
     set_stretch(step_of(from, 0), step_of(to, STEPS));
+    if (strip.of !== session.capture) for (const id of ['strip-traffic', 'strip-breaks']) element(id).setAttribute('d', '');
+    strip.of = session.capture;
 }
 
 const us_at = step => strip.first + Math.round((strip.last - strip.first) * step / STEPS);
@@ -78,9 +85,8 @@ function set_stretch(from, to) {
         element(id).setAttribute('aria-valuenow', String(step));
         element(id).setAttribute('aria-valuetext', clock_of(us_at(step)));
     }
-    const is_whole = from === 0 && to === STEPS;
-    element('whole').hidden = is_whole;
-    element('strip-said').textContent = is_whole ? 'The whole session' : `${clock_of(us_at(from))} to ${clock_of(us_at(to))}`;
+    element('whole').hidden = is_whole();
+    element('strip-said').textContent = is_whole() ? 'The whole session' : `${clock_of(us_at(from))} to ${clock_of(us_at(to))}`;
 }
 
 function ask_stretch() {
@@ -91,7 +97,6 @@ function ask_stretch() {
 function give_back_whole() {
     Object.assign(strip, { from: 0, to: STEPS, anchor: null });
     ask_stretch();
-    element('strip-from').focus();
 }
 
 // The whole session's page gives the strip its picture, and the first break its time.

@@ -88,7 +88,9 @@ async function show_tab(is_next = false) {
     else show_text(said.out);
 }
 
+// Where the panel waits for an answer, none comes.
 function show_no_answer(fault) {
+    if (element('panel').getAttribute('aria-busy') !== 'true') return;
     element('panel').setAttribute('aria-busy', 'false');
     element('panel-note').textContent = fault instanceof Cancelled ? 'Cancelled.' : 'There is no answer.';
     element('panel-command').append(make_button('Ask', () => open_tab(tabs.open)));

@@ -47,6 +47,7 @@ function take_sheet(sheet) {
 async function takes_stretch(terms) {
     if (!terms.from && !terms.to) return true;
     const words = words_of('digest', { ...terms, sheet: null }, EMPTY_CAPTURE), said = await ask(words, [EMPTY_CAPTURE]);
-    if (said.status !== 0) tell_message('From and To want a time', 'Seconds, such as 12.5, or a clock, such as 14:30:47.25, with at most six decimals.');
-    return said.status === 0;
+    if (said.status === 0) return true;
+    tell_message('From and To want a time', 'Seconds, such as 12.5, or a clock, such as 14:30:47.25, with at most six decimals.');
+    return false;
 }

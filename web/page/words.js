@@ -10,7 +10,8 @@ const TAKES = {
     touches: ['sync', 'rate', 'sheet'], try: ['all', 'sync', 'rate', 'sheet'], info: ['sync', 'rate'],
 };
 
-const STATUS = ['yes', 'no', 'the program does not take these words', 'this can’t be read', 'this can’t be opened or read to its end', 'not enough memory'];
+const STATUS = ['yes', 'no', 'the program does not take these words', 'this can’t be read', 'this can’t be opened, or read to its end',
+    'not enough memory'];
 const STATUS_OF = { info: ['the capture can be read'], picture: ['', 'the picture of a no', 'there is nothing to draw'] };
 const status_text = (said, view) => `Status ${said.status}: ${(STATUS_OF[view] || STATUS)[said.status] || STATUS[said.status]}`;
 
@@ -72,6 +73,7 @@ function clock_of(us, decimals = 3) {
 const grouped = n => String(n).replace(/\B(?=(\d{3})+$)/g, ',');
 const seconds_text = ms => ms < 100 ? `${Math.ceil(ms)} ms` : `${(ms / 1000).toFixed(1)} s`;
 function size_text(bytes) {
+    if (bytes === 1) return '1 byte';
     if (bytes < 1e6) return bytes < 1e4 ? `${grouped(bytes)} bytes` : `${(bytes / 1e3).toFixed(0)} kB`;
     return `${(bytes / 1e6).toFixed(1)} MB`;
 }
