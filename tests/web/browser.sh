@@ -5,7 +5,7 @@
 set -u
 cd "$(dirname "$0")/../.." || exit 1
 . tests/lib/tools.sh
-need_tools node=nodejs chromium firefox-esr tidy wasm-as=binaryen
+need_tools node=nodejs chromium firefox-esr tidy eslint wasm-as=binaryen
 need_module html5lib python3-html5lib
 . tests/lib/judge.sh
 . tests/lib/program.sh
@@ -16,6 +16,16 @@ judge 'tidy finds nothing' [ ! -s "$work/err" ]
 judge 'html5lib finds nothing' /usr/bin/python3 -B -c 'import html5lib, sys
 html5lib.HTMLParser(strict=True).parse(open(sys.argv[1], "rb"))' "$page"
 for script in web/page/*.js tests/web/*.js; do judge "$script" node --check "$script"; done
+
+# The scripts of the page are one. eslint's own modules are where Debian has them, also for a node of another package.
+cat web/page/*.js > "$work/page.js"
+cat > "$work/eslint.json" << 'EOF'
+{"root": true, "extends": "eslint:recommended", "env": {"browser": true, "es2020": true}, "parserOptions": {"ecmaVersion": 2020},
+    "globals": {"DecompressionStream": "readonly"},
+    "rules": {"max-lines-per-function": ["error", 40], "max-depth": ["error", 3], "eqeqeq": "error", "no-var": "error", "prefer-const": "error"}}
+EOF
+(cd "$work" && NODE_PATH=/usr/share/nodejs eslint --no-eslintrc -c eslint.json page.js) > "$work/out" 2>&1
+judge 'eslint finds nothing in the scripts of the page' [ $? = 0 ]
 
 # stub NAME BODY [ROOM]: a module in the place of the program, which does this, and has the words put at ROOM.
 stub() {
