@@ -75,6 +75,29 @@ async function captures() {
     equals('the session page is that of the program', await browser.value("answer_to('page').then(it => text_of(it.out))"), built(['page', 'disputed-in-point.csv']).stdout);
 }
 
+// What is saved is what the built program writes, to the byte, and what is copied is the command line.
+async function saved() {
+    const into = path.join(work, 'saved');
+    await browser.send('Browser.setDownloadBehavior', { behavior: 'allow', downloadPath: into });
+    await browser.send('Browser.grantPermissions', { permissions: ['clipboardReadWrite', 'clipboardSanitizedWrite'] });
+    await drop(example('late-reply.csv'));
+    await open_tab('why');
+    const save_view = "document.querySelector('#panel-command .command button:last-child').click()";
+    const kinds = [['late-reply-why.txt', ['why', '--all'], save_view], ['late-reply.html', ['page'], "document.getElementById('save-page').click()"],
+        ['late-reply.json', ['json', '--all'], "document.getElementById('json').click()"]];
+    for (const [name, words, act] of kinds) {
+        await browser.value(act);
+        judge(`${name} is saved`, await browser.until(`document.getElementById('state').textContent === 'Saved as ${name}.'`));
+        const file = path.join(into, name), want = built([...words, 'late-reply.csv']).stdout;
+        for (let n = 0; n < 100 && !fs.existsSync(file); n++) await sleep(50);
+        equals(`what is saved as ${name}`, fs.existsSync(file) && fs.readFileSync(file, 'utf8'), want);
+    }
+    await browser.value("document.querySelector('#asked button').click()");
+    judge('a command line is copied', await browser.until("document.getElementById('state').textContent === 'Copied.'"));
+    equals('as it stands', await browser.value('navigator.clipboard.readText()'), 'ninecheck check --all late-reply.csv');
+    await open_tab('page');
+}
+
 // What the program says to ask next has a button that asks so.
 async function advice() {
     await drop(example('disputed-in-point.csv'));
@@ -399,7 +422,7 @@ async function addresses() {
 async function main() {
     browser = await Chromium.begin();
     try {
-        for (const part of [captures, advice, terms, exports_, together, refusals, faults, long, keys, form]) {
+        for (const part of [captures, saved, advice, terms, exports_, together, refusals, faults, long, keys, form]) {
             if (process.env.PART && process.env.PART !== part.name) continue;
             await open_page();
             await part();
