@@ -11,7 +11,6 @@ const FAULTS = {
     file: ['The file can’t be read', 'It was moved, changed or taken away, or it is a folder. Drop it again.'],
     program: ['The program stopped', 'This is a fault of ninecheck or of the browser, and no answer. Try another browser, and report it.'],
 };
-const EXAMPLES = ['A yes', 'A broken rule', 'A disputed point'];
 const TICK_MS = 200;
 
 function tell_state(text) {
@@ -89,8 +88,10 @@ function start_drops() {
             element(input).value = '';
         });
     }
-    const example_button = ({ name, text }, at) => make_button(EXAMPLES[at], () => take_files([new File([text], name)]));
-    element('examples').append(...JSON.parse(element('example-texts').textContent).map(example_button));
+    const examples = JSON.parse(element('example-texts').textContent);
+    element('examples').querySelectorAll('button').forEach((button, at) => {
+        button.addEventListener('click', () => take_files([new File([examples[at].text], examples[at].name)]));
+    });
 }
 
 function start_buttons() {

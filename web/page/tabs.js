@@ -1,40 +1,26 @@
 'use strict';
-// The views in tabs. Each shows the program's own text, and the command line that gives it; it is asked once its tab is opened.
-
-const TABS = [
-    { view: 'page', title: 'The session', ending: '.html', type: 'text/html' },
-    { view: 'why', title: 'Why', ending: '-why.txt' },
-    { view: 'digest', title: 'What happened', ending: '-digest.txt' },
-    { view: 'motion', title: 'What the deck did', ending: '-motion.txt' },
-    { view: 'delays', title: 'Delays', ending: '-delays.txt' },
-    { view: 'explain', title: 'Every exchange', ending: '-explain.txt' },
-    { view: 'run', title: 'A run', ending: '-run.txt' },
-    { view: 'touches', title: 'Touches', ending: '-touches.txt' },
-    { view: 'picture', title: 'Picture', ending: '.svg', type: 'image/svg+xml' },
-    { view: 'info', title: 'About the capture', ending: '-info.txt' },
-];
-const JSON_LINES = { view: 'json', ending: '.json' };
+// The views in tabs, which are the buttons of the page that name them. Each shows the program's own text, and the command line that gives
+// it; it is asked once its tab is opened.
 
 // So many lines of a text are shown at a time, in blocks of so many: the browser lays out those blocks alone that are in sight.
 const LINES = 5000, BLOCK_LINES = 250;
 
 // begins: where the pieces of the text begin that were shown, up to the one that is.
-const tabs = { open: TABS[0], framed: null, address: '', bytes: null, begins: [0], end: 0 };
+const tabs = { all: [...element('tabs').children], open: element('tab-page'), framed: null, address: '', bytes: null, begins: [0], end: 0 };
 
 function start_tabs() {
-    const tab_of = tab => make_button(tab.title, () => open_tab(tab), { role: 'tab', id: `tab-${tab.view}`, 'aria-controls': 'panel' });
-    element('tabs').append(...TABS.map(tab_of));
+    for (const tab of tabs.all) tab.addEventListener('click', () => open_tab(tab));
     element('tabs').addEventListener('keydown', move_focus);
     mark_open();
-    element('json').addEventListener('click', () => save_view(JSON_LINES));
-    element('save-page').addEventListener('click', () => save_view(TABS[0]));
+    element('json').addEventListener('click', () => save_view(element('json')));
+    element('save-page').addEventListener('click', () => save_view(element('tab-page')));
     element('before').addEventListener('click', () => turn(() => tabs.begins.pop()));
     element('after').addEventListener('click', () => turn(() => tabs.begins.push(tabs.end)));
 }
 
 // Arrows go from tab to tab; Enter or the space bar opens the one that has the focus.
 function move_focus(event) {
-    const all = [...element('tabs').children], at = all.indexOf(document.activeElement);
+    const { all } = tabs, at = all.indexOf(document.activeElement);
     const to = { ArrowRight: at + 1, ArrowLeft: at - 1 + all.length, Home: 0, End: all.length - 1 }[event.key];
     if (to === undefined) return;
     event.preventDefault();
@@ -42,12 +28,11 @@ function move_focus(event) {
 }
 
 function mark_open() {
-    for (const button of element('tabs').children) {
-        const is_open = button.id === `tab-${tabs.open.view}`;
-        button.setAttribute('aria-selected', String(is_open));
-        button.tabIndex = is_open ? 0 : -1;
+    for (const tab of tabs.all) {
+        tab.setAttribute('aria-selected', String(tab === tabs.open));
+        tab.tabIndex = tab === tabs.open ? 0 : -1;
     }
-    element('panel').setAttribute('aria-labelledby', `tab-${tabs.open.view}`);
+    element('panel').setAttribute('aria-labelledby', tabs.open.id);
 }
 
 function open_tab(tab) {
@@ -66,25 +51,25 @@ function clear_panel() {
 
 // Shows the view of the open tab, once it has come.
 async function show_tab(is_next = false) {
-    const tab = tabs.open, { terms, capture } = session;
-    const command = command_of(words_of(tab.view, terms, capture), tab.type ? saved_name(capture.name, tab.ending) : '');
-    const save_it = make_button('Save', () => save_view(tab), { 'aria-label': `Save: ${tab.title}` });
+    const tab = tabs.open, { view, type, ending } = tab.dataset, { terms, capture } = session;
+    const command = command_of(words_of(view, terms, capture), type ? saved_name(capture.name, ending) : '');
+    const save_it = make_button('Save', () => save_view(tab), { 'aria-label': `Save: ${tab.textContent}` });
     element('panel-command').replaceChildren(command_row(command, save_it));
     let said;
     try {
-        said = await answer_to(tab.view, is_next);
+        said = await answer_to(view, is_next);
     } catch (fault) {
         if (tab === tabs.open && terms === session.terms) show_no_answer(fault);
         throw fault;
     }
     if (tab !== tabs.open || terms !== session.terms) return;
     element('panel').setAttribute('aria-busy', 'false');
-    element('panel-note').textContent = `${status_text(said, tab.view)}, ${seconds_text(said.ms)}, ${size_text(said.out.length)}`;
+    element('panel-note').textContent = `${status_text(said, view)}, ${seconds_text(said.ms)}, ${size_text(said.out.length)}`;
     element('panel-said').textContent = text_of(said.err);
     element('panel-said').hidden = said.err.length === 0;
     if (said.out.length === 0) return;
-    if (tab.view === 'page') await show_frame(said);
-    else if (tab.view === 'picture') show_picture(said);
+    if (view === 'page') await show_frame(said);
+    else if (view === 'picture') show_picture(said);
     else show_text(said.out);
 }
 
@@ -154,11 +139,13 @@ function turn(change) {
     show_piece();
 }
 
-async function save_view(tab) {
+// Saves the view that a button names.
+async function save_view(button) {
+    const { view, type, ending } = button.dataset;
     try {
-        const said = await answer_to(tab.view, true);
-        if (said.out.length === 0) tell_refusal(said, words_of(tab.view, session.terms, session.capture), tab.view);
-        else save(saved_name(session.capture.name, tab.ending), said.out, tab.type || 'text/plain');
+        const said = await answer_to(view, true);
+        if (said.out.length === 0) tell_refusal(said, words_of(view, session.terms, session.capture), view);
+        else save(saved_name(session.capture.name, ending), said.out, type || 'text/plain');
     } catch (fault) {
         tell_fault(fault, session.capture.name);
     }
