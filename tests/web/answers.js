@@ -83,7 +83,7 @@ function taken_names() {
 // Names with what a name can have, and names that look like words of the command line.
 function odd_names() {
     const folder = copy_of('examples');
-    for (const name of ['<b>"it\'s"</b>&amp;.csv', 'a\nb\tc.csv', 'Café 日本 \u{1F4FC}.csv', '--all', '-', '%s%n.csv', '..csv']) {
+    for (const name of ['<b>"it\'s" &amp; <i>.csv', 'a\nb\tc.csv', 'Café 日本 \u{1F4FC}.csv', '--all', '-', '%s%n.csv', '..csv']) {
         fs.copyFileSync(path.join(folder, 'late-reply.csv'), path.join(folder, name));
         for (const words of [['check'], ['why'], ['info'], ['page'], ['split', '--rows', '3', '--to', 'part']]) {
             same([...words, name], folder);
