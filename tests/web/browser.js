@@ -322,7 +322,7 @@ async function long() {
     await second;
     judge('a cancel behind the verdict', await browser.until("document.getElementById('panel-note').textContent === 'Cancelled.'"));
     judge('which stands', (await text('file')).startsWith('long.csv'));
-    await browser.value("document.querySelector('#panel-command button:last-child').click()");
+    await browser.value("document.querySelector('#panel-command > button').click()");
     judge('its view can be asked again', await browser.until(`${IDLE} && document.getElementById('panel-note').textContent.startsWith('Status 0: yes')`));
     await drop(example('late-reply.csv'));
     judge('and the next is answered', (await text('verdict')).startsWith('No at record 4'));

@@ -91,7 +91,7 @@ function show_time(number, clock) {
 
 // What is asked of an answer without a click, one behind the other.
 async function follow_up(status) {
-    clear_panel();
+    wait_panel();
     const info = text_of((await answer_to('info')).out);
     for (const line of info.match(/^look at: .*$/gm) || []) show_advice(line);
     begin_strip(info);

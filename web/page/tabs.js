@@ -39,22 +39,27 @@ function open_tab(tab) {
     tabs.open = tab;
     mark_open();
     clear_panel();
+    wait_panel();
     show_tab(true).catch(fault => tell_fault(fault, session.capture.name));
 }
 
 function clear_panel() {
     for (const id of ['frame', 'picture', 'text', 'pieces', 'panel-said']) element(id).hidden = true;
-    element('panel-command').replaceChildren();
+}
+
+// What the panel shows stands, in a pale form, until the next has come, which this command line gives.
+function wait_panel() {
+    const tab = tabs.open, { view, type, ending } = tab.dataset, { terms, capture } = session;
+    const command = command_of(words_of(view, terms, capture), type ? saved_name(capture.name, ending) : '');
+    const save_it = make_button('Save', () => save_view(tab), { 'aria-label': `Save: ${tab.textContent}` });
+    element('panel-command').replaceChildren(command_row(command, save_it));
     element('panel').setAttribute('aria-busy', 'true');
     element('panel-note').textContent = 'Working.';
 }
 
 // Shows the view of the open tab, once it has come.
 async function show_tab(is_next = false) {
-    const tab = tabs.open, { view, type, ending } = tab.dataset, { terms, capture } = session;
-    const command = command_of(words_of(view, terms, capture), type ? saved_name(capture.name, ending) : '');
-    const save_it = make_button('Save', () => save_view(tab), { 'aria-label': `Save: ${tab.textContent}` });
-    element('panel-command').replaceChildren(command_row(command, save_it));
+    const tab = tabs.open, { view } = tab.dataset, { terms } = session;
     let said;
     try {
         said = await answer_to(view, is_next);
@@ -63,6 +68,7 @@ async function show_tab(is_next = false) {
         throw fault;
     }
     if (tab !== tabs.open || terms !== session.terms) return;
+    clear_panel();
     element('panel').setAttribute('aria-busy', 'false');
     element('panel-note').textContent = `${status_text(said, view)}, ${seconds_text(said.ms)}, ${size_text(said.out.length)}`;
     element('panel-said').textContent = text_of(said.err);
@@ -76,6 +82,7 @@ async function show_tab(is_next = false) {
 // Where the panel waits for an answer, none comes.
 function show_no_answer(fault) {
     if (element('panel').getAttribute('aria-busy') !== 'true') return;
+    clear_panel();
     element('panel').setAttribute('aria-busy', 'false');
     element('panel-note').textContent = fault instanceof Cancelled ? 'Cancelled.' : 'There is no answer.';
     element('panel-command').append(make_button('Ask', () => open_tab(tabs.open)));

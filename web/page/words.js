@@ -56,7 +56,7 @@ function quoted(word) {
     const control = /[^\P{Cc}]/gu;
     if (/^[\w@%+=:,./-]+$/.test(word)) return word;
     if (!control.test(word)) return `'${word.replaceAll("'", "'\\''")}'`;
-    const code = c => '\\x' + c.charCodeAt(0).toString(16).padStart(2, '0');
+    const code = c => '\\u' + c.charCodeAt(0).toString(16).padStart(4, '0');
     return `$'${word.replace(/['\\]/g, '\\$&').replace(control, code)}'`;
 }
 
