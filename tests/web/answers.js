@@ -103,7 +103,8 @@ function all_cases() {
         const input = fs.readFileSync(name);
         const lists = new Set(fs.readFileSync(name.replace(/csv$/, 'words'), 'utf8').trim().split('\n'));
         lists.add(OF_A_CAPTURE[turn++ % (OF_A_CAPTURE.length - 1)].join(' '));
-        for (const words of lists) same(words.split(/ +/), room, input);
+        // What Linux alone has a name for, such as /dev/stdin, is no file of a page.
+        for (const words of lists) if (!words.includes('/dev/')) same(words.split(/ +/), room, input);
     }
 }
 
