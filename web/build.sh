@@ -14,7 +14,7 @@ program=crates/ninecheck/out/ninecheck
 
 # lacks: what is missing, in a line each. The tools are of Debian's packages, but for `rt`.
 lacks() {
-    [ -x "$program" ] || echo "the proved program: run make first, it proves and builds it"
+    [ -x "$program" ] || echo 'the proved program: `make` proves and builds it'
     command -v rt > /dev/null || echo '`rt`, the command of the Rattle kit: it is not on the path'
     command -v wasm-opt > /dev/null || echo '`wasm-opt`: it is in the package binaryen'
     command -v node > /dev/null || echo '`node`: it is in the package nodejs'

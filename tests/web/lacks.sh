@@ -23,20 +23,20 @@ run_build() {
 without='the page for a browser is not made without'
 
 run_build
-expect 'nothing is there' 1 '' "$without the proved program: run make first, it proves and builds it
+expect 'nothing is there' 1 '' "$without the proved program: \`make\` proves and builds it
 $without \`rt\`, the command of the Rattle kit: it is not on the path
 $without \`wasm-opt\`: it is in the package binaryen
 $without \`node\`: it is in the package nodejs
 $without \`python3\`: it is in the package of that name"
 run_build stands
 expect 'nothing is there, and it is asked whether the page is' 1 '' ''
-has rt node python3
+has rt node 'python3'
 run_build lacks
-expect 'what is missing' 0 'the proved program: run make first, it proves and builds it
+expect 'what is missing' 0 'the proved program: `make` proves and builds it
 `wasm-opt`: it is in the package binaryen' ''
 has wasm-opt
 run_build
-expect 'nothing is proved' 1 '' "$without the proved program: run make first, it proves and builds it"
+expect 'nothing is proved' 1 '' "$without the proved program: \`make\` proves and builds it"
 ln -s "$(type -P true)" "$work/copy/crates/ninecheck/out/ninecheck"
 run_build lacks
 expect 'nothing is missing' 0 '' ''
