@@ -32,6 +32,7 @@ show() {
 # named here takes the block from the page; `text` is no command; the others are run by the function of this name below.
 blocks="run_it;README.md;./ninecheck check examples/play.csv
 text;docs/ARCHITECTURE.md;bytes
+text;docs/ARCHITECTURE.md;crates ──rattle build──▶ module
 exports/sigrok.sh;docs/CAPTURE.md;sigrok-cli -d fx2lafw
 exports/sigrok.sh;docs/CAPTURE.md;sigrok-cli -i recording.sr
 exports/convert.sh;docs/CAPTURE.md;./ninecheck convert sigrok --samplerate 2000000 examples/exports/sigrok.txt

@@ -227,10 +227,15 @@ def drawn_capture(chance):
     return rows
 
 
+def pictures_of_page():
+    """The names of the pictures that the program draws: the others under docs are of the page for a browser."""
+    return sorted(name for name in os.listdir('docs/pictures') if name.endswith('.svg'))
+
+
 def check_stored():
     """The pictures under docs are those that the program draws of the examples, from a file and from standard input."""
     page = open('docs/VIEWS.md').read()
-    for file in sorted(os.listdir('docs/pictures')):
+    for file in pictures_of_page():
         example = f'examples/{file[:-4]}.csv'
         want = (1, open(f'docs/pictures/{file}').read(), '')
         judge(f'{file} is as drawn', run(['picture', example]) == want)
@@ -339,7 +344,7 @@ def rendered(svg):
 def check_rendered():
     """The picture of each reason is rendered as large as it says, and the box of the record in question is seen, with its
     digits. That box alone is looked into: the picture is rendered once more with nothing else in its frame."""
-    pictures = sorted(os.listdir('docs/pictures'))
+    pictures = pictures_of_page()
     judge(f'a picture of each reason: {len(pictures)}', len(pictures) == 13)
     for name in pictures:
         svg = open(f'docs/pictures/{name}').read()

@@ -32,12 +32,13 @@ function ask_module(module, words, folder, input) {
     return as_text(ask(module, words, files_below(folder), { input: input && new Uint8Array(input) }));
 }
 
-// The built program makes its files in the folder, from where they are taken.
+// The built program makes its files in the folder, from where they are taken. Where it refuses before it reads, what it was handed
+// finds no reader: EPIPE, and the answer stands.
 function ask_built(program, words, folder, input) {
     const there = new Set(fs.readdirSync(folder));
     const how = { cwd: folder, input: input || Buffer.alloc(0), maxBuffer: 1 << 28 };
     const said = spawnSync(program, words, how);
-    if (said.error) throw said.error;
+    if (said.error && said.error.code !== 'EPIPE') throw said.error;
     const names = fs.readdirSync(folder).filter(name => !there.has(name));
     const made = names.map(name => [name, fs.readFileSync(path.join(folder, name))]);
     for (const name of names) fs.unlinkSync(path.join(folder, name));
