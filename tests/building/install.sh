@@ -73,7 +73,7 @@ run_pages() {
         esac
     done < <(sed -n 's#^    \./\(ninecheck convert .*examples/exports.*\)#\1#p' "$root/share/doc/ninecheck/CAPTURE.md"
         sed -n 's/^    \$ //p' "$root/share/doc/ninecheck/VIEWS.md" "$root/share/doc/ninecheck/JSON.md" | sed 's#\./ninecheck#ninecheck#g')
-    judge "$name: the pages' commands: $commands" [ "$commands" = 25 ]
+    judge "$name: the pages' commands: $commands" [ "$commands" = 29 ]
     cmp "$work/a copy/late-reply.svg" docs/pictures/late-reply.svg > "$work/out" 2>&1
     status=$?
     judge "$name: the picture" [ "$status" = 0 ]

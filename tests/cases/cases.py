@@ -1,8 +1,8 @@
 """Runs the program on the cases that cases.awk made of the tables: cases.py PROGRAM FOLDER. What is wrong stands before the last line,
 'N passed, M failed'.
 
-The whole of what comes must be that of the case. Beside that check, explain, run and why, each with hands and at a rate where they are
-asked for, must end with the same status as what is asked, with the same last line where there is a verdict, and with the same standard
+The whole of what comes must be that of the case. Beside that check, explain, run and why, each with hands, at a rate and with a sheet where
+they are asked for, must end with the same status as what is asked, with the same last line where there is a verdict, and with the same standard
 error. With --all check, explain and why must write the same first, and of a yes the totals in its place. Where --all is asked for
 itself, all three must have the same breaks, totals, status and standard error. This is not tried where the words are at fault or a file
 is not opened. Of a view (digest, delays, motion, json) `check` must end with the same status and the same standard error.
@@ -62,8 +62,9 @@ class Case:
         return None if (status, err) == (self.wanted[0], self.wanted[2]) else f'{asked}\ncame {status, err}'
 
     def ends_so(self, words):
-        """Whatever is asked of this capture, with hands, at a rate, and to its end or not as these words say, the end is the same."""
-        options = (' --hands' if '--hands' in words.split() else '') + ''.join(re.findall(' --rate [^ ]+', words)[:1])
+        """Whatever is asked of this capture, with hands, at a rate, with a sheet, and to its end or not as these words say, the end is the
+        same."""
+        options = (' --hands' if '--hands' in words.split() else '') + ''.join(re.findall(' --rate [^ ]+| --deck=[^ ]+', words))
         for verb in 'check', 'explain', 'run', 'why':
             in_parts = f'{verb} --all{options}'
             if '--all' in words.split():

@@ -23,6 +23,8 @@
 #   each FIELD | FIELD   the case once more, with $1, $2 and so on in its lines replaced by these fields
 #   with FIELD | FIELD   each of these cases once more, with the fields counted on after those of `each`
 #
+# A sheet that a table asks for, with --deck=tests/cases/NAME.toml, stands beside it.
+#
 # `@MARK` between records keeps the number of the record before it, which `@MARK` is in a line of what is written.
 #
 # cases.py tells what else is asked of each capture. What another script asks of a capture, and holds to the whole of its answer, is

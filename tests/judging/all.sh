@@ -10,7 +10,8 @@ cd "$(dirname "$0")/../.." || exit 1
 . tests/lib/blocks.sh
 awk=${AWK:-awk}
 
-# How many captures are drawn, every second of them with hands; and how often the long ones have their exchange.
+# How many captures are drawn, every second of them with hands, and every fifth with a sheet of a deck that acts by itself; and how often
+# the long ones have their exchange.
 drawn=1000
 smaller drawn 200 'drawn captures'
 many=40000
@@ -24,17 +25,20 @@ is_composed() {
 # ask LIST: what the program writes of each capture of the list, from its file and from standard input, with the words in another order,
 # and its status: each below a line that tells its words.
 ask() {
-    local name hands words verb quiet
-    while read -r name hands; do
+    local name hands deck words verb quiet
+    while read -r name hands deck; do
         words=
         [ "$hands" = 0 ] || words=--hands
+        [ "$deck" = - ] || words="$words --deck $deck"
         for verb in check explain why; do
             quiet=
             [ "$verb" != why ] || quiet=--quiet
             echo "capture $name: $verb --all $words"
+            # shellcheck disable=SC2086
             "$program" $verb $quiet --all $words "$work/$name.csv"
             echo "status $?"
             echo "capture $name: $verb $words --all from standard input"
+            # shellcheck disable=SC2086
             "$program" $verb $words $quiet --all < "$work/$name.csv"
             echo "status $?"
         done
@@ -44,7 +48,7 @@ ask() {
 # wanted LIST: the same, of what was composed.
 wanted() {
     awk -v folder="$work" '{
-        words = $2 ? "--hands" : ""
+        words = ($2 ? "--hands" : "") ($3 == "-" ? "" : " --deck " $3)
         n = split("check explain why", verb, " ")
         for (k = 1; k <= n; k++) {
             text = line = ""
@@ -78,7 +82,9 @@ at_least() {
 
 draw_captures $drawn "$work" > "$work/list"
 damage_captures $drawn "$work"
-"$awk" '{ print $1 "-damaged " $2 }' "$work/list" > "$work/damaged"
+# At the beginning of each part all may be going on that the sheet names.
+printf '%s\n' '[loses]' '"20 0F" = "points"' '"20 40" = "registers"' '[runs]' '"20 01" = ["JOG"]' '"20 40" = ["REC", "SHUTTLE"]' > "$work/acting.toml"
+"$awk" -v deck="$work/acting.toml" '{ print $1 "-damaged " $2 " " ($1 % 5 == 0 ? deck : "-") }' "$work/list" > "$work/damaged"
 # A processor has a part of them.
 split -n "r/$(nproc)" "$work/damaged" "$work/part-"
 for part in "$work"/part-*; do

@@ -1,23 +1,23 @@
 # Composes what is to be written with --all, of what the program writes without it: awk -v program=PROGRAM -v folder=FOLDER -v
 # place=PLACE -f tests/judging/composing.awk. Each line of the input is a capture, FOLDER/NAME.csv, and 0, or 1 where it is judged with
-# hands: `NAME 1`. The capture is cut at the first record of each part, check, explain and why are run on the rest of it, in PLACE, and
-# the numbers of the records are moved; what is to come of each is FOLDER/NAME.check, .explain and .why. A line is written for each
-# break, `NAME REASON`, one for each part with late replies, `NAME late N, then REASON`, and one for each capture, `NAME of PARTS parts,
-# passed over P`.
+# hands, and the deck's sheet, or `-` where there is none: `NAME 1 -`. The capture is cut at the first record of each part, check, explain
+# and why are run on the rest of it, in PLACE, and the numbers of the records are moved; what is to come of each is FOLDER/NAME.check,
+# .explain and .why. A line is written for each break, `NAME REASON`, one for each part with late replies, `NAME late N, then REASON`, and
+# one for each capture, `NAME of PARTS parts, passed over P`.
 #
 # Where a part's verdict is L1, the reply and all that follows come earlier by as much as the reply is late, and the part is judged
 # again: only what was not told before is added. Each time that is told is the true one, from the capture.
 
-{ compose($1, $2 == 1 ? " --hands" : "") }
+{ compose($1, ($2 == 1 ? " --hands" : "") ($3 == "-" ? "" : " --deck " $3)) }
 
-function compose(name, hands,    begin, parts, breaks, late, exchanges, in_exchanges, open) {
+function compose(name, words,    begin, parts, breaks, late, exchanges, in_exchanges, open) {
     read_capture(folder "/" name ".csv")
     parts = breaks = exchanges = in_exchanges = open = 0
     split("", text)
     for (begin = 1; begin > 0; begin = begin_of_part(broke_at, reason)) {
         parts++
         late = told = 0
-        for (judge_part(begin, hands); verdict ~ / L1 / && lateness(broke_at) > 0; judge_part(begin, hands)) {
+        for (judge_part(begin, words); verdict ~ / L1 / && lateness(broke_at) > 0; judge_part(begin, words)) {
             print name, reason
             late++
             told = exchanges_of_part
@@ -68,14 +68,14 @@ function come_earlier(first, by,    k) {
 }
 
 # Judges the records from this one on as a capture by itself: its verdict, and where that is a no the record that breaks and the reason.
-function judge_part(begin, hands,    file, command, k, verb) {
+function judge_part(begin, words,    file, command, k, verb) {
     file = place "/part.csv"
     print "time_us,wire,byte" > file
     for (k = begin; k <= records; k++) print judged_at[k] "," wire[k] "," byte[k] > file
     close(file)
     exchanges_of_part = in_exchanges_of_part = 0
     command = ""
-    for (verb in verbs) command = command program " " (verb == "why" ? "why --quiet" : verb) hands " " file "; echo; "
+    for (verb in verbs) command = command program " " (verb == "why" ? "why --quiet" : verb) words " " file "; echo; "
     for (verb in verbs) take(verb, command, begin - 1)
     close(command)
     if (verdict ~ /^no/) {

@@ -28,6 +28,7 @@ END {
     printf "no run without hands %d, with hands %d, both %d\n", broken[0], broken[1], broken[0] + broken[1]
     printf "yes without hands %d, with hands %d, both %d\n", kept[0], kept[1], kept[0] + kept[1]
     printf "runs of a yes without hands, compared with those with hands: %d\n", same_runs
+    printf "yes by what a deck does by itself without hands %d, with hands %d, of %d with a sheet\n", by_itself[0], by_itself[1], sheets
     line = "contradicting replies:"
     for (k = 1; k <= 7; k++) line = line " " k " in " places_named[k] + 0 ","
     print line " later breaks " later + 0
@@ -57,6 +58,7 @@ function end_capture(    h) {
     if (number == "") return
     captures++
     is_refused = 0
+    read_sheet(drawn_sheet[number])
     read_capture(drawn[number])
     for (h = 0; h < 2; h++) {
         set_places(h)
@@ -78,7 +80,8 @@ function end_capture(    h) {
         if (said["why"] != 1 || text["why", 1] != verdict_of(h)) refuse("why of a yes")
         compare_run(h ? "run --hands" : "run", verdict_of(h))
     }
-    if (!at[0]) compare_runs()
+    if (!at[0] && drawn_sheet[number] == "-") compare_runs()
+    if (drawn_sheet[number] != "-") count_sheet()
 }
 
 # the lines of `why`: each of an exchange, ascending to the one that breaks; then what was asked of them
@@ -122,8 +125,17 @@ function is_line_of(line, i,    begin, arrow, asked) {
 
 function ends_with(text, end) { return substr(text, length(text) - length(end) + 1) == end }
 
-# Nobody has to touch it, so the run with hands is the run without, and only a command switches the panel on: it is so until one
-# switches it off, or may have made the deck forget it.
+# Counts whether the capture breaks earlier where the deck does nothing by itself, and else is what its sheet says.
+function count_sheet(    h) {
+    sheets++
+    h = drawn_hands[number]
+    read_sheet(resting(drawn_sheet[number]))
+    set_places(h)
+    if (!at[h] && first_break()) by_itself[h]++
+}
+
+# Nobody has to touch it, so the run with hands is the run without where there is no sheet, and only a command switches the panel on:
+# it is so until one switches it off, or may have made the deck forget it.
 function compare_runs(    i, panel) {
     same_runs++
     if (said["run"] != exchanges + 1 || said["run --hands"] != exchanges + 1) { refuse("run and run --hands, their lines"); return }
@@ -144,11 +156,13 @@ function compare_run(run, verdict,    n, i, s, t, moves, more, least) {
     n = said[run]
     if (n != exchanges + 1 || text[run, n] != verdict) { refuse("run, its lines"); return }
     moves = 0
+    go_first()
     for (i = 1; i <= exchanges; i++) {
         if (!read_state(text[run, i], last_record[i], t)) { refuse("run, line " i); return }
         more = i == 1 ? moves_to_first(t) : moves_to(i, s, t)
         if (more < 0) { refuse("run: nothing leads to the state in line " i); return }
         moves += more
+        go_on(i, 1)
         copy_state(t, s)
     }
     if (!hands) return

@@ -9,30 +9,34 @@ cd "$(dirname "$0")/../.." || exit 1
 
 awk=${AWK:-awk}
 
-# How many captures are drawn, every second of them with hands.
+# How many captures are drawn, every second of them with hands, and every third of a deck with a sheet.
 drawn=2400
 smaller drawn 480 'drawn captures'
 
 # What the program says of each capture of the list.
 ask() {
-    local number hands words
-    while read -r number hands _; do
-        words=
-        [ "$hands" = 0 ] || words=--hands
+    local number hands said deck words
+    while read -r number hands said _; do
+        deck=
+        [ "$said" = - ] || deck="--deck $work/$number.toml"
+        words="$deck"
+        [ "$hands" = 0 ] || words="--hands $deck"
         echo "capture $number"
-        echo '- check'
-        "$program" check "$work/$number.csv"
-        echo '- check --hands'
-        "$program" check --hands "$work/$number.csv"
-        echo '- why'
         # shellcheck disable=SC2086
-        "$program" why --quiet $words "$work/$number.csv"
-        echo '- run'
-        "$program" run "$work/$number.csv"
-        echo '- run --hands'
-        "$program" run --hands "$work/$number.csv"
-        echo '- touches'
-        [ "$hands" = 0 ] || "$program" touches "$work/$number.csv"
+        {
+            echo '- check'
+            "$program" check $deck "$work/$number.csv"
+            echo '- check --hands'
+            "$program" check --hands $deck "$work/$number.csv"
+            echo '- why'
+            "$program" why --quiet $words "$work/$number.csv"
+            echo '- run'
+            "$program" run $deck "$work/$number.csv"
+            echo '- run --hands'
+            "$program" run --hands $deck "$work/$number.csv"
+            echo '- touches'
+            [ "$hands" = 0 ] || "$program" touches $deck "$work/$number.csv"
+        }
     done 2>&1
 }
 
@@ -63,7 +67,7 @@ at_least() {
     [ "$(sed -nE "s/^$2 without hands ([0-9]+), with hands ([0-9]+), .*/\\$3/p" "$work/compared")" -ge $(($1 * drawn / 2400)) ]
 }
 
-draw_captures $drawn "$work" > "$work/list"
+draw_captures $drawn "$work" -v sheets=yes > "$work/list"
 # A processor asks of a part of them.
 split -n "l/$(nproc)" "$work/list" "$work/part-"
 for part in "$work"/part-*; do ask < "$part" > "$part.results" & done
@@ -82,7 +86,10 @@ judge 'captures with hands that are a no' at_least 500 'no run' 2
 judge 'captures without hands that are a yes' at_least 500 yes 1
 judge 'captures with hands that are a yes' at_least 500 yes 2
 compared=$(sed -n 's/^runs of a yes without hands, compared with those with hands: //p' "$work/compared")
-judge 'captures that nobody has to touch' [ "${compared:-0}" -ge $((1000 * drawn / 2400)) ]
+judge 'captures that nobody has to touch' [ "${compared:-0}" -ge $((700 * drawn / 2400)) ]
+by_itself='yes by what a deck does by itself'
+judge 'captures without hands that are a yes by what a deck does by itself' at_least 80 "$by_itself" 1
+judge 'captures with hands that are a yes by what a deck does by itself' at_least 60 "$by_itself" 2
 touches=$(sed -n 's/^touches compared: \([0-9]*\),.*/\1/p' "$work/compared")
 judge 'touches of a hand' [ "${touches:-0}" -ge $((100 * drawn / 2400)) ]
 

@@ -30,10 +30,10 @@ has_line() {
 }
 
 # agrees: each line of a run is of its form, with this at its end, and names the record of the line of the explanation
-# in $work/explained, and each field that is known there; the last line is the same.
+# in $work/explained, and each field that is known there; the last line is the same. What the deck may do by itself is in none of a run.
 agrees() {
     sed '$d' "$work/out" | { ! grep -vxE -- "$any_line$1"; } &&
-        sed -E 's/^(record [0-9]+: ).*, delay [0-9]+, /\1/' "$work/explained" |
+        sed -E 's/^(record [0-9]+: ).*, delay [0-9]+, /\1/; s/, may (run|lose) [^,]*//g' "$work/explained" |
         paste -d '\n' - "$work/out" | awk -F ', ' '
             NR % 2 == 1 { split($0, known, ", "); fields = NF; whole = $0; next }
             fields == 3 { if ($0 != whole) exit 1; next }
@@ -136,6 +136,27 @@ judge 'the dispute, the panel' has_line 4 \
     "$(line_form 30 "$mode" "$mode" 10:00:00:00 "$register" no), panel on"
 judge 'the dispute, the hand' has_line 5 \
     "$(line_form 40 "$mode" "$mode" 11:00:00:00 "$register" '(yes|no)'), panel on"
+
+# What a deck does by itself: it runs an edit with the goal STOP, and clears IN some time after EJECT, where STOP keeps no cassette in.
+acting='--deck tests/cases/acting.toml'
+capture_of "$remote C 20 00 20 $ack C 61 20 12 93 D 72 20 20 00 B2 C 20 42 62 $ack C 61 20 12 93 D 72 20 00 20 B2 C 61 20 12 93 D 72 20 02 80 14"
+for words in "$acting" "--hands $acting"; do
+    # shellcheck disable=SC2086
+    judge "an edit, $words" is_run "$work/capture.csv" $words
+done
+# shellcheck disable=SC2086
+run_of "$work/capture.csv" $acting
+judge 'an edit, SHUTTLE' has_line 5 "$(line_form 38 STOP SHUTTLE "$register" "$register" no)"
+judge 'an edit, REC' has_line 6 "$(line_form 47 STOP REC "$register" "$register" no)"
+capture_of "$remote $preset C 20 0F 2F $ack C 61 20 31 B2 D 71 20 01 92 C 20 00 20 $ack C 61 20 31 B2 D 71 20 00 91"
+for words in "$acting" "--hands $acting"; do
+    # shellcheck disable=SC2086
+    judge "IN is lost, $words" is_run "$work/capture.csv" $words
+done
+# shellcheck disable=SC2086
+run_of "$work/capture.csv" $acting
+judge 'IN is lost, while it is set' has_line 4 "$(line_form 32 "$mode" "$mode" "${at}0" clear no)"
+judge 'IN is lost, and it is clear' has_line 6 "$(line_form 46 STOP "$mode" clear clear no)"
 
 # What may be ignored, refused, forgotten or captured, and what only one view can tell.
 while IFS='|' read -r name records; do

@@ -360,6 +360,34 @@ judge 'LOCAL DISABLE forgets the panel' grep -q '^record 16: LOCAL DISABLE -> AC
 run explain --deck "$work/disable.toml" "$work/capture.csv"
 judge 'without hands it stays off' grep -q '^record 16: LOCAL DISABLE -> ACK, .*, local unknown, ain unknown, aout unknown$' "$work/out"
 
+# ---- What a deck does by itself. The verdicts by a sheet of its own are in tests/cases/acting.txt.
+
+# A mode twice, both tables at one command, and a listed command: PLAY, after which this deck shuttles and loses audio IN by itself.
+sheet acting '[loses]' '"20 01" = "registers"' '[runs]' '"20 01" = ["SHUTTLE", "SHUTTLE"]'
+capture_of "C 61 20 01 82 D 71 20 00 91 $play C 44 16 00 00 00 10 6A $ack C 61 20 31 B2 D 71 20 04 95 C 61 20 31 B2 D 71 20 00 91 C 61 20 12 93 D 72 20 00 20 B2"
+ends check 1 'no at record 40: M1 no run remains'
+ends "check --deck $work/acting.toml" 0 'yes: records 49, exchanges 6, open 0'
+says "explain --deck $work/acting.toml" 0 "record 8: STATUS SENSE -> 71 20, delay 400, goal unknown, shown unknown, in unknown, out unknown, local no, ain unknown, aout unknown, may run SHUTTLE, may lose in|out|ain|aout
+record 14: PLAY -> ACK, delay 400, goal PLAY, shown unknown, in unknown, out unknown, local no, ain unknown, aout unknown, may run SHUTTLE, may lose in|out|ain|aout
+record 24: AUDIO IN DATA PRESET -> ACK, delay 400, goal unknown, shown unknown, in unknown, out unknown, local no, ain 10:00:00:00, aout unknown, may run SHUTTLE, may lose in|out|ain|aout
+record 32: STATUS SENSE -> 71 20, delay 400, goal unknown, shown unknown, in clear, out clear, local no, ain 10:00:00:00, aout clear, may run SHUTTLE, may lose in|out|ain|aout
+record 40: STATUS SENSE -> 71 20, delay 400, goal unknown, shown unknown, in clear, out clear, local no, ain clear, aout clear, may run SHUTTLE, may lose in|out|ain|aout
+record 49: STATUS SENSE -> 72 20, delay 400, goal unknown, shown SHUTTLE, in clear, out clear, local no, ain clear, aout clear, may run SHUTTLE, may lose in|out|ain|aout
+yes: records 49, exchanges 6, open 0"
+# What goes on is ended by a late acknowledgement too, which ends no part.
+capture_of "C 61 20 01 82 D 71 20 00 91 $play C 20 02 22 +9400 $ack C 61 20 12 93 D 72 20 02 00 94 C 61 20 12 93 D 72 20 00 20 B2"
+says "check --all --deck $work/acting.toml" 1 'no at record 18: L1 late reply
+no at record 38: M1 no run remains
+breaks 2: records 38, exchanges 4, passed over 9, open 0'
+# Somebody has to touch nothing where the deck does it by itself.
+capture_of "C 61 20 01 82 D 71 20 00 91 $play C 61 20 12 93 D 72 20 01 00 93 C 61 20 12 93 D 72 20 00 20 B2"
+ends check 1 'no at record 32: M1 no run remains'
+run touches --deck "$work/acting.toml" "$work/capture.csv"
+judge 'nobody touched it' has_verdict 0 'yes: records 32, exchanges 4, open 0'
+judge 'no touch is told' eval '[ "$(grep -c "^between " "$work/out")" = 0 ]'
+run touches "$work/capture.csv"
+judge 'somebody did' eval '[ "$(grep -c "^between " "$work/out")" = 1 ]'
+
 # ---- Sheets that are refused.
 
 # refused WHAT LINES...: this is wrong with a sheet of these lines, and the capture is not read. Each report refuses one further below.
@@ -378,8 +406,8 @@ for key in '2 61' '20 6' '020 61' '20  61' '2061' '20-61' '20 6G' ' 20 61' '' 'E
 done
 refused '[forgets] "20 6a": named twice' '[forgets]' '"20 6a" = "nothing"' '"20 6A" = "motion"'
 refused 'line 3: not TOML' '[forgets]' '"20 61" = "nothing"' '"20 61" = "nothing"'
-refused '"forget": unknown key: only [forgets], [goals], [names], [passes] and [replies] are read' '[forget]'
-refused '"title": unknown key: only [forgets], [goals], [names], [passes] and [replies] are read' 'title = "an edit deck"'
+refused '"forget": unknown key: only [forgets], [goals], [loses], [names], [passes], [replies] and [runs] are read' '[forget]'
+refused '"title": unknown key: only [forgets], [goals], [loses], [names], [passes], [replies] and [runs] are read' 'title = "an edit deck"'
 not_forgotten='not "nothing", "motion", "registers", "tape" or "everything"'
 for value in '"local"' '"Nothing"' '""' 1 true '[]' '{}' 1979-05-27; do
     refused "[forgets] \"20 61\": $not_forgotten" '[forgets]' "\"20 61\" = $value"
@@ -397,6 +425,26 @@ goals_clash='[forgets] has another word for it than "nothing" and "registers"'
 for word in motion tape everything; do refused "[goals] \"20 65\": $goals_clash" '[goals]' '"20 65" = ["REC"]' '"20 66" = 1' '[forgets]' "\"20 65\" = \"$word\""; done
 refused '[goals] "20 6a": named twice' '[goals]' '"20 6a" = ["REC"]' '"20 6A" = ["REC"]'
 modes='STOP, PLAY, REC, FF, REW, SHUTTLE, JOG, VAR, CUED or EJECT'
+# What a deck does by itself, of one entry in the order of what may be wrong with it. Listed commands may begin something.
+refused '"loses": not a table' 'loses = "points"'
+refused '"runs": not a table' 'runs = ["REC"]'
+for table in loses runs; do
+    for key in '20 65 01' '2065' '20 6g' '' 'AUTO EDIT' '61 0C 03'; do
+        refused "[$table] \"$key\": not two bytes in hexadecimal, as \"20 61\"" "[$table]" "\"$key\" = 1"
+    done
+    for key in '10 01' '7A 20'; do refused "[$table] \"$key\": groups 1 and 7 are a deck's replies, not commands" "[$table]" "\"$key\" = 1"; done
+    for key in '40 2D' '40 10' '61 0A' '61 20' '00 0C' '80 00'; do
+        refused "[$table] \"$key\": a command of another group than 2 begins nothing" "[$table]" "\"$key\" = 1"
+    done
+done
+for value in 1 '"REC"' '{}' '["REC", 1]'; do refused '[runs] "20 42": not a list of modes, as ["SHUTTLE", "JOG"]' '[runs]' "\"20 42\" = $value"; done
+refused '[runs] "20 42": an empty list: at least one mode is wanted' '[runs]' '"20 42" = []'
+refused "[runs] \"20 42\": \"jog\" is not $modes" '[runs]' '"20 42" = ["REC", "jog"]' '"20 4a" = 1'
+for value in 1 '"tape"' '"motion"' '"Points"' '""' '["points"]' '{}'; do
+    refused '[loses] "20 0F": not "points" or "registers"' '[loses]' "\"20 0F\" = $value"
+done
+refused '[loses] "20 0f": named twice' '[loses]' '"20 0f" = "points"' '"20 0F" = "points"'
+refused '[runs] "20 4a": named twice' '[runs]' '"20 4a" = ["REC"]' '"20 4A" = ["REC"]'
 refused "[passes] \"RECORD\": not $modes" '[passes]' 'RECORD = ["JOG"]'
 refused "[passes] \"rec\": not $modes" '[passes]' 'rec = ["JOG"]'
 refused "[passes] \"REC\": \"jog\" is not $modes" '[passes]' 'REC = ["STOP", "jog"]'
@@ -441,20 +489,24 @@ refused '[forgets] "61 0C 03": not two bytes in hexadecimal, as "20 61"' '[forge
 refused '[goals] "61 0C 03": not two bytes in hexadecimal, as "20 61"' '[goals]' '"61 0C 03" = ["REC"]'
 refused '"replies": not a table' 'replies = []'
 # The first of several, whatever their order in the file: what is no TOML, a key at the top, and the tables by their names.
-wrong_lines=('[replies]' '"20 61" = []' '[passes]' 'X = []' '[names]' '"20 61" = 1' '[goals]' '"20 65" = []' '[forgets]' '"20 61" = 1')
+wrong_lines=('[runs]' '"20 42" = []' '[replies]' '"20 61" = []' '[passes]' 'X = []' '[names]' '"20 61" = 1' '[loses]' '"20 0F" = 1'
+    '[goals]' '"20 65" = []' '[forgets]' '"20 61" = 1')
 refused "[forgets] \"20 61\": $not_forgotten" "${wrong_lines[@]}"
-refused '[goals] "20 65": an empty list: at least one mode is wanted' "${wrong_lines[@]:0:8}"
-refused '[names] "20 61": not a text, as "FULL EE ON"' "${wrong_lines[@]:0:6}"
-refused "[passes] \"X\": not $modes" "${wrong_lines[@]:0:4}"
-refused '"other": unknown key: only [forgets], [goals], [names], [passes] and [replies] are read' "${wrong_lines[@]}" '[other]'
-refused 'line 12: not TOML' "${wrong_lines[@]}" '[other]' 'x'
+refused '[goals] "20 65": an empty list: at least one mode is wanted' "${wrong_lines[@]:0:12}"
+refused '[loses] "20 0F": not "points" or "registers"' "${wrong_lines[@]:0:10}"
+refused '[names] "20 61": not a text, as "FULL EE ON"' "${wrong_lines[@]:0:8}"
+refused "[passes] \"X\": not $modes" "${wrong_lines[@]:0:6}"
+refused '[replies] "20 61": an empty list: at least one reply is wanted' "${wrong_lines[@]:0:4}"
+refused '[runs] "20 42": an empty list: at least one mode is wanted' "${wrong_lines[@]:0:2}"
+refused '"other": unknown key: only [forgets], [goals], [loses], [names], [passes], [replies] and [runs] are read' "${wrong_lines[@]}" '[other]'
+refused 'line 16: not TOML' "${wrong_lines[@]}" '[other]' 'x'
 # Of one entry the key's fault comes before the value's, and that it is named twice last.
 refused '[names] "20 01": a listed command: it has its name' '[names]' '"20 01" = 1'
 refused "[replies] \"20 6a\": $no_replies" '[replies]' '"20 6a" = 1' '"20 6A" = ["10 01"]'
 refused 'line 1: not TOML' 'time_us,wire,byte'
 refused 'line 2: not TOML' '[forgets]' '"20 61"'
 # A key that would move the cursor of a terminal is written in plain letters.
-refused '"\x1b[2J": unknown key: only [forgets], [goals], [names], [passes] and [replies] are read' '"\u001b[2J" = 1'
+refused '"\x1b[2J": unknown key: only [forgets], [goals], [loses], [names], [passes], [replies] and [runs] are read' '"\u001b[2J" = 1'
 
 # Not UTF-8.
 printf '[forgets]\n"20 61" = "\xff"\n' > "$work/latin.toml"

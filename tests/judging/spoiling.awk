@@ -35,6 +35,7 @@ END { end_capture() }
 
 function end_capture(    k) {
     if (number == "" || changed == 20) return
+    read_sheet(drawn_sheet[number])
     read_capture(drawn[number])
     set_places(drawn_hands[number])
     if (!change(begins["why"], begins["run"], begins["check"], begins["run --hands"], begins["touches"])) return
@@ -99,12 +100,14 @@ function change(why, run, check, touched, touches,    k, i, could, s, t, u) {
         if (!hands || text[touches] !~ /^between/) return 0
         if (how == "swapped" && replace(touches, "local: no => yes", "local: yes => no")) return 1
         if (how == "swapped") return replace(touches, "local: yes => no", "local: no => yes")
-        if (!sub(/, [a-z]*: [^,]*$/, "", text[touches])) text[touches] = text[touches] ", aout: clear => 05:05:05:05"
+        if (sub(/, [a-z]*: [^,]*$/, "", text[touches])) return 1
+        if (text[touches] ~ / aout: /) return 0
+        text[touches] = text[touches] ", aout: clear => 05:05:05:05"
         return 1
     }
-    # without hands these are compared with one another alone
+    # without hands, and without a sheet, these are compared with one another alone
     if (how == "other-run" || how == "panel") {
-        if (hands || text[run] !~ /^record/) return 0
+        if (hands || drawn_sheet[number] != "-" || text[run] !~ /^record/) return 0
         k = touched + int(exchanges / 2)
         if (how == "panel") return replace(k, ", panel off", ", panel on") || replace(k, ", panel on", ", panel off")
         return replace(k, "aout clear", "aout 05:05:05:05") || sub(/aout [^,]*/, "aout clear", text[k])

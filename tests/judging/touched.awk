@@ -105,11 +105,12 @@ function read_touch(line, place, changed,    begin, n, word, i, k, part, name) {
     return n
 }
 
-# compare_touches(LEAST, VERDICT): a line for each of so many moves
+# compare_touches(LEAST, VERDICT): a line for each of so many moves. With hands all goes on throughout that the sheet names.
 function compare_touches(least, verdict,    n, m, i, a, b, place, keep, changed, told) {
     n = said["touches"]
     if (n != least + 2 || text["touches", n] != verdict) { refuse("touches, its lines"); return }
     if (text["touches", n - 1] !~ "^touches " least "[:,] ") { refuse("touches, how many"); return }
+    go_first()
     place[0] = 0
     for (m = 1; m <= least; m++) {
         fill(a, everything)

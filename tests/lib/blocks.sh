@@ -28,10 +28,10 @@ repeated() {
     for ((k = 0; k < $1; k++)); do echo "$2"; done
 }
 
-# draw_captures N FOLDER, damage_captures N FOLDER: draws captures, and damages those that were drawn. The heads of the two programs
-# tell what they write.
+# draw_captures N FOLDER [WORDS...], damage_captures N FOLDER: draws captures, and damages those that were drawn. The heads of the two
+# programs tell what they write, and their words.
 draw_captures() {
-    "${AWK:-awk}" -v number="$1" -v folder="$2" -f tests/lib/chance.awk -f tests/lib/deck.awk -f tests/lib/records.awk \
+    "${AWK:-awk}" -v number="$1" -v folder="$2" "${@:3}" -f tests/lib/chance.awk -f tests/lib/deck.awk -f tests/lib/records.awk \
         -f tests/lib/drawing.awk
 }
 damage_captures() {

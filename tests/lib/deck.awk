@@ -1,6 +1,6 @@
 # The plain deck: the deck of docs/PROFILE.md with all states in which it could be in a list. Only functions; deck_setup() comes
-# first. The list is kept sorted: for each value of local, panel and the four registers (a place, counted from 0) stand
-# the pairs of goal and shown mode. Nothing is taken to be independent of anything else.
+# first, and read_sheet() where the deck has a sheet. The list is kept sorted: for each value of local, panel and the four registers (a
+# place, counted from 0) stand the pairs of goal and shown mode. Nothing is taken to be independent of anything else.
 #
 # It is for the answers of the built program on whole captures: verdicts, what `why` names, runs, the fewest moves of a hand, and what
 # each of them changes.
@@ -57,9 +57,7 @@ function deck_setup(    g, m, p, i, n, word, list) {
     n = split("0011 4130 4230 4431 4136 4040 4041 6120", word, " ")
     for (i = 1; i <= n; i++) listed_as(word[i], "nothing", 0)
 
-    # the pairs that a drift of the mechanics leads to, by single moves
-    for (g = 1; g <= 10; g++) for (m = 1; m <= 10; m++) find_reached((g - 1) * 10 + m)
-
+    read_sheet("-")
     lists = 0
     list = ""
     for (p = 1; p <= 100; p++) list = list "0"
@@ -75,25 +73,101 @@ function listed_as(head, does_what, may_be_ignored) {
     ignorable[head] = may_be_ignored
 }
 
-# reached[p]: all pairs that moves lead to from p, by trying move after move
-function find_reached(p,    todo, n, i, g, m, w, word, k, seen) {
+# ---- a sheet, and what a deck does by itself
+
+# read_sheet(TEXT): what a sheet says, as one word: entries between semicolons, as `forgets:2042=nothing`, `runs:2042=JOG,REC` and
+# `loses:200F=points`, each command by its first two bytes; `-` for no sheet
+function read_sheet(text,    n, i, k, entry, side, part, word, head) {
+    split("", forgets_nothing)
+    split("", modes_at)
+    split("", lost_at)
+    no_modes = all_modes = "0000000000"
+    no_lost = all_lost = "0000"
+    n = text == "-" ? 0 : split(text, entry, ";")
+    for (i = 1; i <= n; i++) {
+        split(entry[i], side, "=")
+        split(side[1], part, ":")
+        head = part[2]
+        if (part[1] == "forgets") { forgets_nothing[head] = 1; continue }
+        if (!(head in modes_at)) {
+            modes_at[head] = no_modes
+            lost_at[head] = no_lost
+        }
+        if (part[1] == "loses") lost_at[head] = side[2] == "points" ? "1100" : "1111"
+        else for (k = split(side[2], word, ","); k > 0; k--) modes_at[head] = with_mark(modes_at[head], mode_of[word[k]])
+    }
+    for (head in modes_at) {
+        all_modes = either(all_modes, modes_at[head])
+        all_lost = either(all_lost, lost_at[head])
+    }
+    go_first()
+}
+
+# the same sheet of a deck that does nothing by itself
+function resting(text) {
+    gsub(/(runs|loses):[^;]*;?/, "", text)
+    sub(/;$/, "", text)
+    return text == "" ? "-" : text
+}
+
+# marks: a 0 or a 1 for each mode, or for each register
+function with_mark(marks, place) { return substr(marks, 1, place - 1) "1" substr(marks, place + 1) }
+
+function either(a, b,    k) {
+    for (k = 1; k <= length(b); k++) if (substr(b, k, 1) == "1") a = with_mark(a, k)
+    return a
+}
+
+# go_first(): before a capture, and before each part, all may be going on that the sheet names
+function go_first() {
+    now_modes = all_modes
+    now_lost = all_lost
+}
+
+# go_after(HEAD): what is going on after this command, which got no NAK, of a deck that nobody touches
+function go_after(head) {
+    if (head in modes_at) {
+        now_modes = modes_at[head]
+        now_lost = lost_at[head]
+    } else if ((head in effect_of) && effect_of[head] ~ /^go /) {
+        now_modes = no_modes
+        if (effect_of[head] != "go 1") now_lost = no_lost
+    }
+}
+
+# go_on(I, BELIEVED): the same after exchange i, whose reply is believed or not. Hands may have begun anything, at any time.
+function go_on(i, believed) {
+    if (hands || (believed && is_nak[i])) return
+    if (believed) go_after(head_at[i])
+    else if (head_at[i] in modes_at) {
+        now_modes = either(now_modes, modes_at[head_at[i]])
+        now_lost = either(now_lost, lost_at[head_at[i]])
+    }
+}
+
+# all pairs that moves lead to from p, by trying move after move
+function reached_from(p,    key, todo, n, i, g, m, w, word, k, seen) {
+    key = p " " now_modes
+    if (key in reached) return reached[key]
     n = 1
     todo[1] = p
     seen[p] = 1
-    reached[p] = p
+    reached[key] = p
     for (i = 1; i <= n; i++) {
         g = int((todo[i] - 1) / 10) + 1
         m = (todo[i] - 1) % 10 + 1
         w = split(way[g], word, " ")
         word[++w] = g
+        for (k = 1; k <= 10; k++) if (substr(now_modes, k, 1) == "1") word[++w] = k
         for (k = 1; k <= w; k++) word[k] = (g - 1) * 10 + word[k]
         if (m == g) word[++w] = 1
         for (k = 1; k <= w; k++) if (!(word[k] in seen)) {
             seen[word[k]] = 1
             todo[++n] = word[k]
-            reached[p] = reached[p] " " word[k]
+            reached[key] = reached[key] " " word[k]
         }
     }
+    return reached[key]
 }
 
 # ---- bytes and times
@@ -166,16 +240,17 @@ function number_of_marked(mark,    p, list) {
 }
 
 function drifted(a,    key, p, n, i, word, mark, list) {
-    if (!(a in after_drift)) {
+    key = a " " now_modes
+    if (!(key in after_drift)) {
         list = list_text[a]
         split("", mark)
         for (p = 1; p <= 100; p++) if (substr(list, p, 1) == "1") {
-            n = split(reached[p], word, " ")
+            n = split(reached_from(p), word, " ")
             for (i = 1; i <= n; i++) mark[word[i]] = 1
         }
-        after_drift[a] = number_of_marked(mark)
+        after_drift[key] = number_of_marked(mark)
     }
-    return after_drift[a]
+    return after_drift[key]
 }
 
 function gone(a, g,    key, p, mark) {
@@ -227,7 +302,7 @@ function read_capture(text,    i, part, side, word, answer, n, head, first, k, a
         at += split(side[1], word, " ")
         at += split(side[2], answer, " ")
         last_record[i] = at
-        head = word[1] word[2]
+        head = head_at[i] = word[1] word[2]
         is_nak[i] = (answer[1] answer[2] == "1112")
         asks[i] = ""
         told[i] = datum[i, 0] = datum[i, 1] = datum[i, 2] = datum[i, 3] = -1
@@ -244,7 +319,8 @@ function read_capture(text,    i, part, side, word, answer, n, head, first, k, a
             else if (side[2] != "") register[i] = side[2]
             if (side[1] == "at") time[i] = time_at(word, 3)
             if (side[1] == "next" || side[1] == "previous") shifts[register[i]]++
-        } else if (head ~ /^2/) does[i] = "forget-tape"
+        } else if (head in forgets_nothing) does[i] = "nothing"
+        else if (head ~ /^2/) does[i] = "forget-tape"
         else if (head ~ /^4/) does[i] = "forget-registers"
         else if (head ~ /^6/) does[i] = "nothing"
         else does[i] = "forget-all"
@@ -329,12 +405,21 @@ function has_panel_on(a,    k) {
     return 0
 }
 
-# drift(a, by_hand): any number of moves of the mechanics; where a hand may move, and the panel is on somewhere, any state with the
-# panel on
-function drift(a, by_hand,    k, on) {
+# drift(a, by_hand): any number of moves of the mechanics, and of what is going on; where a hand may move, and the panel is on somewhere,
+# any state with the panel on
+function drift(a, by_hand,    k, r, on) {
     on = by_hand && has_panel_on(a)
     for (k = 0; k < places; k++) if (a[k] && a[k] != everything) a[k] = drifted(a[k])
+    for (r = 0; r < 4; r++) if (substr(now_lost, r + 1, 1) == "1") lose(a, r)
     if (on) for (k = panel_stride; k < places; k++) a[k] = everything
+}
+
+# from a, in place: register r may become Clear
+function lose(a, r,    k, base) {
+    for (k = 0; k < places; k++) if (a[k] && entry[r, k]) {
+        base = k - entry[r, k] * stride[r]
+        a[base] = joined(a[base], a[k])
+    }
 }
 
 # from a to b: those states that agree with reply i
@@ -414,24 +499,28 @@ function do_step(a, i, believed,    k, s) {
 # first_break(): the first exchange after which no state remains, all replies believed; 0 where there is none
 function first_break(    i, a) {
     fill(a, everything)
+    go_first()
     for (i = 1; i <= exchanges; i++) {
         drift(a, hands)
         do_step(a, i, 1)
+        go_on(i, 1)
         if (is_empty(a)) return i
     }
     return 0
 }
 
 # has_believing(believed, upto): there is a run of the exchanges up to this one that believes the replies in believed. As long
-# as nothing was believed every state is there.
+# as nothing was believed every state is there, and all goes on.
 function has_believing(believed, upto,    i, a, begun) {
     fill(a, everything)
+    go_first()
     begun = 0
     for (i = 1; i <= upto; i++) {
         if (i in believed) begun = 1
         if (!begun) continue
         drift(a, hands)
         do_step(a, i, (i in believed))
+        go_on(i, (i in believed))
         if (is_empty(a)) return 0
     }
     return 1
@@ -440,9 +529,11 @@ function has_believing(believed, upto,    i, a, begun) {
 # could_show(upto): the line of what the deck could show when it gave reply `upto`, all before believed
 function could_show(upto,    i, k, p, r, a, mark, seen, text, n) {
     fill(a, everything)
+    go_first()
     for (i = 1; i < upto; i++) {
         drift(a, hands)
         do_step(a, i, 1)
+        go_on(i, 1)
     }
     drift(a, hands)
     for (k = 0; k < places; k++) if (a[k]) {
@@ -486,6 +577,7 @@ function known_entry(seen, r,    v, n, one) {
 # in one of those before exchange i.
 function fewest_moves(    moves, i, k, a, is_on, on) {
     for (i = 1; i <= exchanges; i++) is_on[i] = 0
+    go_first()
     for (moves = 0; moves <= exchanges; moves++) {
         fill(a, everything)
         for (i = 1; i <= exchanges; i++) {
@@ -588,15 +680,20 @@ function steps_to(i, d, t,    r) {
     return pair_may(i, d["pair"], t["pair"]) && local_may(i, d["local"], t["local"]) && panel_may(i, d["panel"], t["panel"])
 }
 
-# does a drift of the mechanics and a step of exchange i lead from s to t?
-function goes_without_hand(i, s, t,    n, k, word, d, r) {
-    for (r = 0; r < 4; r++) d[r] = s[r]
+# does a drift that no hand takes part in, and a step of exchange i lead from s to t? What is going on before it is as go_first() and
+# go_on() left it. Of the registers that may be lost all choices are tried.
+function goes_without_hand(i, s, t,    n, k, word, d, r, lost) {
     d["local"] = s["local"]
     d["panel"] = s["panel"]
-    n = split(reached[s["pair"]], word, " ")
-    for (k = 1; k <= n; k++) {
-        d["pair"] = word[k]
-        if (steps_to(i, d, t)) return 1
+    n = split(reached_from(s["pair"]), word, " ")
+    for (lost = 0; lost < 16; lost++) {
+        for (r = 0; r < 4; r++) if (has_bit(lost, 2 ^ r) && (substr(now_lost, r + 1, 1) != "1" || s[r] < 0)) break
+        if (r < 4) continue
+        for (r = 0; r < 4; r++) d[r] = has_bit(lost, 2 ^ r) ? -1 : s[r]
+        for (k = 1; k <= n; k++) {
+            d["pair"] = word[k]
+            if (steps_to(i, d, t)) return 1
+        }
     }
     return 0
 }

@@ -1,6 +1,7 @@
 # Draws captures, as `draw_captures` of tests/lib/blocks.sh runs it. Capture i is written to FOLDER/i.csv, and a line for it to standard
-# output: i, whether it is to be judged with hands, and its exchanges as read_capture reads them. The replies are those of a deck that
-# takes one way of those that it has; in most captures one of them is then spoilt. Every run draws the same.
+# output: i, whether it is to be judged with hands, what the deck's sheet says as read_sheet reads it, and its exchanges as read_capture
+# reads them. The replies are those of a deck that takes one way of those that it has; in most captures one of them is then spoilt. Every
+# run draws the same. With sheets=yes every third capture is of a deck with a sheet, FOLDER/i.toml, that says what it does by itself.
 
 BEGIN {
     deck_setup()
@@ -32,10 +33,11 @@ function any_state(    r) {
     for (r = 0; r < 4; r++) holds[r] = any_entry()
 }
 
-function draw_drift(    n, word, pair) {
+function draw_drift(    n, word, pair, r) {
     if (with_hands && panel_on && draw(3) == 0) any_state()
-    if (draw(3)) return
-    n = split(reached[(goal - 1) * 10 + shown], word, " ")
+    if (now_lost != no_lost) for (r = 0; r < 4; r++) if (substr(now_lost, r + 1, 1) == "1" && draw(4) == 0) holds[r] = -1
+    if (draw(now_modes == no_modes ? 3 : 2)) return
+    n = split(reached_from((goal - 1) * 10 + shown), word, " ")
     pair = word[draw(n) + 1]
     goal = int((pair - 1) / 10) + 1
     shown = (pair - 1) % 10 + 1
@@ -63,6 +65,10 @@ function head_of_command(words,    word) {
 
 # The bytes of a command, without its sum. Of captures on a theme all but a few are about IN, or about the tape.
 function draw_command(    kind, r) {
+    if (sheet_text != "-" && draw(4)) {
+        if (draw(2)) return "61 20 " one_of("12 12 12 31 31 04")
+        return one_of("20/42 20/42 20/42 20/61 20/0F 20/0F 20/00 20/05 20/01")
+    }
     if (theme == "in" && draw(8)) {
         kind = draw(15)
         if (kind < 3) return "44 14 " bytes_of_time(pool[draw(4) + 1])
@@ -130,6 +136,7 @@ function draw_reply(command,    word, head, n, first, reply, r, what, t, k) {
     if (!(head in effect_of)) {
         t = in_local
         k = panel_on
+        if (head in forgets_nothing) return reply
         if (head ~ /^2/) any_state()
         if (head ~ /^4/) for (r = 0; r < 4; r++) holds[r] = any_entry()
         if (head ~ /^[1358]/ || head ~ /^00/) {
@@ -172,15 +179,55 @@ function with_sum(block,    word, n, k, sum) {
     return block " " hex(sum % 256)
 }
 
+# What a sheet says: what the deck does by itself after some commands, AUTO EDIT and EJECT mostly; and that it forgets nothing at some.
+function drawn_sheet(    text, n, i, k, head, modes) {
+    text = ""
+    n = split("2042 2042 2061 2000 2001 2005 200F", head, " ")
+    for (i = 1; i <= n; i++) if (!(text ~ "runs:" head[i]) && draw(i < 3 ? 2 : 6) == 0) {
+        modes = one_of("STOP PLAY REC FF REW SHUTTLE JOG VAR CUED EJECT")
+        for (k = draw(4); k > 0; k--) modes = modes "," one_of("STOP PLAY REC FF REW SHUTTLE JOG VAR CUED EJECT")
+        text = text "runs:" head[i] "=" modes ";"
+    }
+    if (draw(2)) text = text "loses:200F=" one_of("points registers") ";"
+    if (draw(4) == 0) text = text "loses:2042=" one_of("points registers") ";"
+    if (draw(6) == 0) text = text "loses:2001=points;"
+    if (draw(6)) text = text "forgets:2042=nothing;"
+    if (draw(2)) text = text "forgets:2061=nothing;"
+    sub(/;$/, "", text)
+    return text == "" ? "-" : text
+}
+
+# The same as a sheet is written.
+function write_sheet(file, text,    n, i, k, m, t, entry, side, part, word, table, lines) {
+    n = split(text, entry, ";")
+    for (i = 1; i <= n; i++) {
+        split(entry[i], side, "=")
+        split(side[1], part, ":")
+        m = split(side[2], word, ",")
+        for (k = 1; k <= m; k++) word[k] = "\"" word[k] "\"" (k < m ? ", " : "")
+        side[2] = ""
+        for (k = 1; k <= m; k++) side[2] = side[2] word[k]
+        if (part[1] == "runs") side[2] = "[" side[2] "]"
+        lines[part[1]] = lines[part[1]] "\"" substr(part[2], 1, 2) " " substr(part[2], 3) "\" = " side[2] "\n"
+    }
+    t = split("forgets loses runs", table, " ")
+    printf "" > file
+    for (i = 1; i <= t; i++) if (table[i] in lines) printf "[%s]\n%s", table[i], lines[table[i]] > file
+    close(file)
+}
+
 # Of twenty captures of a kind nine are to be a no, and four to be a yes though replies are spoilt: those with hands such that it is
 # a no without, and every fourth of these such that a hand has to move twice. They are drawn again until they are so, at most
-# forty times.
+# forty times. The other seven, where the deck has a sheet, are to be a yes by what it does by itself.
 function draw_capture(number,    line, want, try) {
     with_hands = number % 2
     want = int(number / 2) % 20
     for (try = 0; try < 40; try++) {
+        sheet_text = sheets == "yes" && number % 3 == 0 ? drawn_sheet() : "-"
+        read_sheet(sheet_text)
         line = drawn_line(with_hands, want < 9 ? 1 : want < 12 ? 1 + draw(4) : want == 12 ? 2 + draw(4) : 0)
-        if (want >= 13) break
+        if (want >= 13 && (sheet_text == "-" || is_by_itself(line))) break
+        if (want >= 13) continue
         read_capture(line)
         set_places(with_hands)
         if (want < 9 && first_break()) break
@@ -193,24 +240,37 @@ function draw_capture(number,    line, want, try) {
         set_places(0)
         if (first_break()) break
     }
-    print number, with_hands, line
+    print number, with_hands, sheet_text, line
+    if (sheet_text != "-") write_sheet(folder "/" number ".toml", sheet_text)
     write_capture(folder "/" number ".csv", line)
+}
+
+# whether a capture is a no where the deck does nothing by itself
+function is_by_itself(line,    is_no) {
+    read_sheet(resting(sheet_text))
+    read_capture(line)
+    set_places(with_hands)
+    is_no = first_break()
+    read_sheet(sheet_text)
+    return is_no
 }
 
 # the exchanges of a capture, with so many spoilt replies
 function drawn_line(with_hands, spoils,    n, i, k, command, reply, line, senses) {
     any_state()
+    go_first()
     panel_on = with_hands && (spoils > 1 || draw(4) == 0)
     n = 2 + draw(6)
     k = 2 + draw(6)
     if (k > n) n = k
     theme = one_of("in tape any any")
     if (theme != "any" && draw(8)) in_local = 0
+    if (sheet_text != "-" && draw(4)) in_local = 0
     k = 0
     for (i = 1; i <= n; i++) {
         command[i] = draw_command()
         if (with_hands && spoils < 2 && i == 1 + 2 * (draw(5) == 0) && draw(8)) command[i] = "00 0C"
-        else if (i == 1 + with_hands && draw(3) < (theme == "any" ? 1 : 2)) command[i] = "61 20 01"
+        else if (i == 1 + with_hands && draw(3) < (theme == "any" && sheet_text == "-" ? 1 : 2)) command[i] = "61 20 01"
         if (i == n && draw(2)) {
             command[i] = theme == "tape" ? "61 20 12" : "60 10"
             if (theme == "any") command[i] = one_of("60/10 61/20/01 61/20/04 61/20/12")
@@ -218,6 +278,7 @@ function drawn_line(with_hands, spoils,    n, i, k, command, reply, line, senses
         gsub(/\//, " ", command[i])
         draw_drift()
         reply[i] = draw_reply(command[i])
+        if (!with_hands && reply[i] !~ /^11 12/) go_after(head_of_command(command[i]))
         if (command[i] ~ /^6[01] [12]/ && reply[i] !~ /^11/) senses[++k] = i
     }
     # the last sense mostly, and others

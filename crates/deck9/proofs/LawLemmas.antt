@@ -5,17 +5,11 @@ use Rattle.std.specs.Prelude.{None, true, ◌≢◌}
 use Rattle.deck9.proofs.Words.{forgotten_with, Goes, name_of}
 use Rattle.deck9.proofs.Words.{subst, sym, with_entry, ◌++◌, ◌∷◌, ◌≡◌}
 use Rattle.deck9.proofs.Words.{Deck, Option, Profile, Rate}
+use Rattle.deck9.proofs.Words.{entry_of, Going, KeepsRest, on_after, on_at_first, refl, StaysOrLost}
+use Rattle.deck9.specs.Laws.{IsPartOf}
 use Rattle.deck9.proofs.DriftLemmas.{drift_from_pairs, pairs_from_drift}
+use Rattle.deck9.proofs.GoingLemmas.{after_is_part, drift_more, part_self}
 use Rattle.deck9.proofs.RunSearch.{read_panel}
-
--- ---- drifts
-
-moves_join : (profile : Profile) (us vs : List State) (s t u : State) → Moves profile s us t → Moves profile t vs u → Moves profile s (us ++ vs) u
-moves_join profile [] vs s t u m n = subst (λ x. Moves profile x vs u) m n
-moves_join profile (v ∷ us) vs s t u m n = (m.0, moves_join profile us vs v t u m.1 n)
-
-pub drift_join : (profile : Profile) (s t u : State) → Drift profile s t → Drift profile t u → Drift profile s u
-drift_join profile s t u d e = (d.0 ++ e.0, moves_join profile d.0 e.0 s t u d.1 e.1)
 
 -- ---- hands: the same states with the panel on or off, as LOCAL ENABLE and DISABLE leave it
 
@@ -49,34 +43,45 @@ module _ (rate : Rate) (deck : Option Deck) where
       let w = does_beside (effect_of deck c) on s t does in
       (w.0, done other (agrees_beside (shown_by c reply) on s reply shown) w.1)
 
-  exchange_beside : (c : Command) (reply : Block) (on : Bool) (s t : State) → Exchanges (by_hand Hands.None) c reply s t
-      → (off : Bool) × Exchanges (by_hand Hands.Allowed) c reply (with_panel on s) (with_panel off t)
-  exchange_beside c reply on s t (d, drift, step) =
-      elim (pairs_from_drift (by_hand Hands.None) s d drift) [
+  kept_beside : (going : Going) (on : Bool) (s d : State) → KeepsRest going s d → KeepsRest going (with_panel on s) (with_panel on d)
+  kept_beside going on s d k = record {
+    registers = λ r. subst (λ e. StaysOrLost going r e (entry_of r (with_panel on d))) (sym (read_panel r s on))
+        (subst (StaysOrLost going r (entry_of r s)) (sym (read_panel r d on)) (k.registers r));
+    local = k.local;
+    panel = refl;
+  }
+
+  -- with hands at least as much goes on
+  exchange_beside : (less more : Going) (c : Command) (reply : Block) (on : Bool) (s t : State) → IsPartOf less more → Exchanges (by_hand Hands.None) less c reply s t
+      → (off : Bool) × Exchanges (by_hand Hands.Allowed) more c reply (with_panel on s) (with_panel off t)
+  exchange_beside less more c reply on s t part (d, drift, step) =
+      elim (pairs_from_drift (by_hand Hands.None) more s d (drift_more (by_hand Hands.None) less more s d part drift)) [
         | inl w ↦
-            let more = step_beside c reply on d t step in
-            (more.0, (with_panel on d, drift_from_pairs (by_hand Hands.Allowed) (with_panel on s) (with_panel on d) (inl (ap (with_panel on) w.0, w.1)), more.1))
+            let after = step_beside c reply on d t step in
+            (after.0, (with_panel on d, drift_from_pairs (by_hand Hands.Allowed) more (with_panel on s) (with_panel on d) (inl (kept_beside more on s d w.0, w.1)), after.1))
         | inr w ↦ absurd (let never = w.0 in cc)
       ]
 
-  goes_beside : (e : Exchange) (on : Bool) (s t : State) → Goes (by_hand Hands.None) e s t → (off : Bool) × Goes (by_hand Hands.Allowed) e (with_panel on s) (with_panel off t)
-  goes_beside e on s t (u, exchanges, forgets) =
-      let first = exchange_beside e.command e.reply on s u exchanges in
-      let more = does_beside (Effect.Forget (forgotten_with deck e)) first.0 u t forgets in
-      (more.0, (with_panel first.0 u, first.1, more.1))
+  goes_beside : (less more : Going) (e : Exchange) (on : Bool) (s t : State) → IsPartOf less more → Goes (by_hand Hands.None) less e s t
+      → (off : Bool) × Goes (by_hand Hands.Allowed) more e (with_panel on s) (with_panel off t)
+  goes_beside less more e on s t part (u, exchanges, forgets) =
+      let first = exchange_beside less more e.command e.reply on s u part exchanges in
+      let after = does_beside (Effect.Forget (forgotten_with deck e)) first.0 u t forgets in
+      (after.0, (with_panel first.0 u, first.1, after.1))
 
-  run_beside : (es : List Exchange) (on : Bool) (s : State) (ts : List State) → IsRunFrom (by_hand Hands.None) s es ts
-      → (us : List State) × IsRunFrom (by_hand Hands.Allowed) (with_panel on s) es us
-  run_beside [] on s [] r = ([], tt)
-  run_beside (e ∷ es) on s (t ∷ ts) r =
-      let first = goes_beside e on s t r.0 in
-      let rest = run_beside es first.0 t ts r.1 in
+  -- all that is named goes on with hands, and no more than that without
+  run_beside : (on : Going) (es : List Exchange) (panel : Bool) (s : State) (ts : List State) → IsPartOf on (on_at_first deck) → IsRunFrom (by_hand Hands.None) on s es ts
+      → (us : List State) × IsRunFrom (by_hand Hands.Allowed) (on_at_first deck) (with_panel panel s) es us
+  run_beside on [] panel s [] part r = ([], tt)
+  run_beside on (e ∷ es) panel s (t ∷ ts) part r =
+      let first = goes_beside on (on_at_first deck) e panel s t part r.0 in
+      let rest = run_beside (on_after deck true e on) es first.0 t ts (after_is_part deck true e on part) r.1 in
       (with_panel first.0 t ∷ rest.0, (first.1, rest.1))
-  run_beside es on s ts r = absurd r
+  run_beside on es panel s ts part r = absurd r
 
   pub run_with_hands : (es : List Exchange) → HasRun (by_hand Hands.None) es → HasRun (by_hand Hands.Allowed) es
   run_with_hands es r =
-      let w = run_beside es false r.first r.after r.is_run in
+      let w = run_beside (on_at_first deck) es false r.first r.after (part_self (on_at_first deck)) r.is_run in
       record { first = with_panel false r.first; is_first = (valid_beside rate false r.first r.is_first.0, tt); after = w.0; is_run = w.1 }
 
 -- ---- local

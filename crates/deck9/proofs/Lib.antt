@@ -2,7 +2,9 @@ pub mod ContradictLemmas
 pub mod DriftLemmas
 pub mod EffectLemmas
 pub mod LawLemmas
+pub mod GoingLemmas
 pub mod LessLemmas
+pub mod LossLemmas
 pub mod ModeLemmas
 pub mod ModeSetLemmas
 pub mod ReplyLemmas

@@ -4,6 +4,10 @@ use Rattle.deck9.proofs.Words.{IsRunFrom, IsState, List, nat_tests, State, DeckS
 use Rattle.deck9.proofs.Words.{before_shift, Bool, MayBeOn, moved_entry, Next, next_frame, Prev, prev_frame, Profile, Rate}
 use Rattle.deck9.proofs.Words.{Steps, Forgotten, forgotten_with, Goes}
 use Rattle.deck9.proofs.EffectLemmas.{does_valid, put_panel, put_valid}
+use Rattle.deck9.proofs.Words.{goes_on, Going, on_at_first}
+use Rattle.deck9.proofs.Words.{true}
+use Rattle.deck9.specs.Laws.{IsPartOf}
+use Rattle.deck9.proofs.GoingLemmas.{drift_more, goes_on_is_part, goes_on_more}
 use Rattle.deck9.proofs.RunSearch.{before_all, first_drifts}
 
 -- ---- steps lead from states to states
@@ -38,14 +42,26 @@ pub first_steps : (profile : Profile) (e : Exchange) (s t : State) → IsFirst p
 first_steps profile e s t first step = let does = first_does profile (effect_of profile.deck e.command) s t first in grind arith
 
 -- nor does an exchange
-pub first_goes : (profile : Profile) (e : Exchange) (s t : State) → IsFirst profile s → Goes profile e s t → IsFirst profile t
-first_goes profile e s t first (u, (d, drift, step), forgets) =
-    first_does profile (Effect.Forget (forgotten_with profile.deck e)) u t (first_steps profile e d u (first_drifts profile s d first drift) step) forgets
+pub first_goes : (profile : Profile) (on : Going) (e : Exchange) (s t : State) → IsFirst profile s → Goes profile on e s t → IsFirst profile t
+first_goes profile on e s t first (u, (d, drift, step), forgets) =
+    first_does profile (Effect.Forget (forgotten_with profile.deck e)) u t (first_steps profile e d u (first_drifts profile on s d first drift) step) forgets
 
 -- ---- runs
 
-pub rest_runs : (profile : Profile) (es fs : List Exchange) (s : State) (ts : List State) → IsFirst profile s → IsRunFrom profile s (es ++ fs) ts → HasRun profile fs
-rest_runs profile [] fs s ts first run = record { first = s; is_first = first; after = ts; is_run = run }
-rest_runs profile (e ∷ es) fs s [] first run = absurd run
-rest_runs profile (e ∷ es) fs s (t ∷ ts) first (goes, run) =
-    rest_runs profile es fs t ts (first_goes profile e s t first goes) run
+-- a run where less goes on is one where more does
+pub run_more : (profile : Profile) (less more : Going) (es : List Exchange) (s : State) (ts : List State) → IsPartOf less more → IsRunFrom profile less s es ts → IsRunFrom profile more s es ts
+run_more profile less more [] s [] part run = tt
+run_more profile less more (e ∷ es) s (t ∷ ts) part ((u, (d, drift, step), forgets), run) = (
+  (u, (d, drift_more profile less more s d part drift, step), forgets),
+  run_more profile (goes_on profile true e less) (goes_on profile true e more) es t ts (goes_on_more profile true e less more part) run,
+)
+run_more profile less more es s ts part run = absurd run
+
+-- what may be going on after some exchanges is a part of what may be at first
+pub rest_runs : (profile : Profile) (on : Going) (es fs : List Exchange) (s : State) (ts : List State) → IsPartOf on (on_at_first profile.deck) → IsFirst profile s
+    → IsRunFrom profile on s (es ++ fs) ts → HasRun profile fs
+rest_runs profile on [] fs s ts part first run =
+    record { first = s; is_first = first; after = ts; is_run = run_more profile on (on_at_first profile.deck) fs s ts part run }
+rest_runs profile on (e ∷ es) fs s [] part first run = absurd run
+rest_runs profile on (e ∷ es) fs s (t ∷ ts) part first (goes, run) =
+    rest_runs profile (goes_on profile true e on) es fs t ts (goes_on_is_part profile true e on part) (first_goes profile on e s t first goes) run

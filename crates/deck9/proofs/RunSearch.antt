@@ -5,7 +5,8 @@ use Rattle.deck9.proofs.Words.{next_frame, Prev, prev_frame, refl, refused, Regi
 use Rattle.deck9.proofs.Words.{◌∙◌, ◌∷◌, ◌≡◌, ◌⊎◌}
 use Rattle.deck9.proofs.Words.{Deck, Option, Profile, Rate}
 use Rattle.deck9.proofs.Words.{before_forgetting, between, is_nak, Forgets, Forgotten, forgotten_with, Goes, may_ignore, Nothing, Shows, with_forgotten}
-use Rattle.deck9.proofs.DriftLemmas.{drift_from_pairs, pairs_from_drift, same_entries}
+use Rattle.deck9.proofs.Words.{goes_on, Going, KeepsRest, on_at_first}
+use Rattle.deck9.proofs.DriftLemmas.{drift_from_pairs, kept_valid, pairs_from_drift}
 use Rattle.deck9.proofs.ShowsLemmas.{shows_nothing}
 use Rattle.deck9.proofs.EffectLemmas.{does_between, forgets_between, put_panel}
 
@@ -57,10 +58,10 @@ does_from profile (Effect.Change r c) on d t valid p (e, b, put) = inl (e, b, pu
 does_from profile f on d t valid p does = inl (grind arith)
 
 -- a command that asks for something of the state has no effect, and nothing is forgotten beside it
-sensed : (deck : Option Deck) (e : Exchange) → ((effect_of deck e.command ≡ Effect.Nothing) × (forgotten_with deck e ≡ Nothing)) ⊎ (sense_of e.command ≡ Sense.Nothing)
+pub sensed : (deck : Option Deck) (e : Exchange) → ((effect_of deck e.command ≡ Effect.Nothing) × (forgotten_with deck e ≡ Nothing)) ⊎ (sense_of e.command ≡ Sense.Nothing)
 sensed deck e = grind arith
 
-ignored_asks_nothing : (c : Command) → may_ignore c ≡ true → sense_of c ≡ Sense.Nothing
+pub ignored_asks_nothing : (c : Command) → may_ignore c ≡ true → sense_of c ≡ Sense.Nothing
 ignored_asks_nothing c may = grind arith
 
 -- the state that stands for those before what is forgotten, and the one before a shift to it
@@ -87,7 +88,7 @@ module _ (profile : Profile) (g : Forgotten) (on : Bool) (u t : State) (forgets 
 shift_panel : (rate : Rate) (f : Effect) (s : State) → (before_shift rate f s).panel ≡ s.panel
 shift_panel rate f s = grind (arith, put_panel)
 
-silent : (profile : Profile) (e : Exchange) (v : State) → sense_of e.command ≡ Sense.Nothing → Shows profile.rate v e.command e.reply
+pub silent : (profile : Profile) (e : Exchange) (v : State) → sense_of e.command ≡ Sense.Nothing → Shows profile.rate v e.command e.reply
 silent profile e v asks = shows_nothing profile.rate v e.command e.reply asks
 
 -- a step from one of the states that stand for all
@@ -158,16 +159,19 @@ two_states profile e on t f same back is_effect is_same is_back valid valid_back
 -- ---- complete exchanges
 
 -- no drift leads out of the first states
-pub first_drifts : (profile : Profile) (s d : State) → IsFirst profile s → Drift profile s d → IsFirst profile d
-first_drifts profile s d first drift = let pairs = pairs_from_drift profile s d drift in let entries = same_entries profile.rate s d in grind arith
+pub first_drifts : (profile : Profile) (on : Going) (s d : State) → IsFirst profile s → Drift profile on s d → IsFirst profile d
+first_drifts profile on s d first drift = elim (pairs_from_drift profile on s d drift) [
+  | inl w ↦ (kept_valid profile.rate on s d w.0 first.0, subst (MayBeOn profile.hands) (sym w.0.panel) first.1)
+  | inr w ↦ (w.3, subst (λ h. MayBeOn h d.panel) (sym w.0) tt)
+]
 
 -- an exchange is a drift, and then the step with what is forgotten besides
-pub steps_of : (profile : Profile) (e : Exchange) (s t : State) → Goes profile e s t → (d : State) × Drift profile s d × Steps profile e d t
-steps_of profile e s t (u, (d, drift, step), forgets) = (d, drift, (u, step, forgets))
+pub steps_of : (profile : Profile) (on : Going) (e : Exchange) (s t : State) → Goes profile on e s t → (d : State) × Drift profile on s d × Steps profile e d t
+steps_of profile on e s t (u, (d, drift, step), forgets) = (d, drift, (u, step, forgets))
 
 begins_at : (profile : Profile) (e : Exchange) (t : State) → Begins profile e t ↔ ((d : State) × IsFirst profile d × Steps profile e d t)
-begins_at profile e t = (
-  λ w. let at = steps_of profile e w.0 t w.2 in (at.0, first_drifts profile w.0 at.0 w.1 at.1, at.2),
+begins_at profile e t = let on = on_at_first profile.deck in (
+  λ w. let at = steps_of profile on e w.0 t w.2 in (at.0, first_drifts profile on w.0 at.0 w.1 at.1, at.2),
   λ w. (w.0, w.1, (w.2.0, (w.0, ([], refl), w.2.1), w.2.2)),
 )
 
@@ -196,14 +200,17 @@ begins_touched profile e t allowed = (
     from d false p valid step = inl (d, valid, p, step)
     from d true p valid step = inr (d, valid, p, step)
 
-pub goes_by : (profile : Profile) (e : Exchange) (s t : State) → (DriftsAndSteps profile e s t ⊎ ((profile.hands ≡ Hands.Allowed) × (s.panel ≡ true) × StepsFromSome profile e true t))
-    ↔ Goes profile e s t
-goes_by profile e s t = (
+pub goes_by : (profile : Profile) (on : Going) (e : Exchange) (s t : State)
+    → (DriftsAndSteps profile on e s t ⊎ ((profile.hands ≡ Hands.Allowed) × (s.panel ≡ true) × StepsFromSome profile e true t)) ↔ Goes profile on e s t
+goes_by profile on e s t = (
   λ w. elim w [
-    | inl (d, keeps, pair, (u, step, forgets)) ↦ (u, (d, drift_from_pairs profile s d (inl (keeps, pair)), step), forgets)
-    | inr (allowed, on, (d, valid, still, (u, step, forgets))) ↦ (u, (d, drift_from_pairs profile s d (inr (allowed, on, still, valid)), step), forgets)
+    | inl (d, keeps, pair, (u, step, forgets)) ↦ (u, (d, drift_from_pairs profile on s d (inl (keeps, pair)), step), forgets)
+    | inr (allowed, switched, (d, valid, still, (u, step, forgets))) ↦ (u, (d, drift_from_pairs profile on s d (inr (allowed, switched, still, valid)), step), forgets)
   ],
-  λ w. let at = steps_of profile e s t w in elim (pairs_from_drift profile s at.0 at.1) [ inl p ↦ inl (at.0, p.0, p.1, at.2) | inr p ↦ inr (p.0, p.1, (at.0, p.3, p.2, at.2)) ],
+  λ w. let at = steps_of profile on e s t w in elim (pairs_from_drift profile on s at.0 at.1) [
+    | inl p ↦ inl (at.0, p.0, p.1, at.2)
+    | inr p ↦ inr (p.0, p.1, (at.0, p.3, p.2, at.2))
+  ],
 )
 
 -- ---- runs
@@ -213,11 +220,11 @@ run_none profile [] [] p q = let r = run_start profile in (r.first, r.is_first, 
 run_none profile es ts p q = cc
 
 -- all the exchanges lead on from the first state exactly where those that are left do so from the state before them
-pub record RunsOn (profile : Profile) (first : State) (es : List Exchange) (ts : List State) (before : State) (es' : List Exchange) (ts' : List State) : Type 0 where
-  pub runs : IsRunFrom profile first es ts ↔ IsRunFrom profile before es' ts'
+pub record RunsOn (profile : Profile) (begun : Going) (first : State) (es : List Exchange) (ts : List State) (on : Going) (before : State) (es' : List Exchange) (ts' : List State) : Type 0 where
+  pub runs : IsRunFrom profile begun first es ts ↔ IsRunFrom profile on before es' ts'
   pub lengths : length es' ≡ length ts'
 
-pub lengths_differ : (profile : Profile) (s : State) (es : List Exchange) (ts : List State) → IsRunFrom profile s es ts → length es ≡ length ts
-lengths_differ profile s [] [] r = refl
-lengths_differ profile s (e ∷ es) (t ∷ ts) r = ap suc (lengths_differ profile t es ts r.1)
-lengths_differ profile s es ts r = absurd r
+pub lengths_differ : (profile : Profile) (on : Going) (s : State) (es : List Exchange) (ts : List State) → IsRunFrom profile on s es ts → length es ≡ length ts
+lengths_differ profile on s [] [] r = refl
+lengths_differ profile on s (e ∷ es) (t ∷ ts) r = ap suc (lengths_differ profile (goes_on profile true e on) t es ts r.1)
+lengths_differ profile on s es ts r = absurd r

@@ -6,19 +6,22 @@ pub use Rattle.block9.specs.declared.block.Block.{Block}
 pub use Rattle.block9.specs.declared.command.Command.{Command}
 pub use Rattle.block9.specs.declared.exchange.Exchange.{Exchange}
 pub use Rattle.deck9.specs.Contradict.{behind_first, CanPass, forgotten_if, HasBelieving, IsBelievingFrom, MayDo, MayGo}
-pub use Rattle.deck9.specs.Drift.{arrives, ComesToShow, Drift, DriftsTo, halts, handled, Move, Moves, PairReaches, passes}
+pub use Rattle.deck9.specs.Drift.{arrives, ComesToShow, Drift, DriftsTo, halts, handled, KeepsRest, loses, Move, Moves, PairReaches, passes, runs, StaysOrLost}
+pub use Rattle.deck9.specs.Going.{all_with, goes_on, left_after, left_by, may_lose, more_lost, named_on, nothing_on, on_after, on_at_first, together, with_named}
+pub use Rattle.deck9.specs.declared.going.Going.{Going}
+pub use Rattle.deck9.specs.declared.going.Lost.{Lost}
 pub use Rattle.deck9.specs.Effect.{Becomes, Does, effect_of, Forgets, KeepsPanel, listed_effect, moved_entry, switched, unlisted_effect, with_forgotten}
 pub use Rattle.deck9.specs.Laws.{AreAnswered, ForgetsNoMore, ForgetsNothingBeside, IsRightReply, MayReply, SetsInDay, ShowJust}
 pub use Rattle.deck9.specs.Local.{is_of_goal_or_register, may_ignore}
 pub use Rattle.deck9.specs.Mode.{every_mode, index_of, is_mode, is_one_of, on_the_way}
 pub use Rattle.deck9.specs.ModeCalls.{is_some}
 pub use Rattle.deck9.specs.ModeSet.{bit_of, either, has, modes, of_modes}
-pub use Rattle.deck9.specs.Run.{Ends, HasRun, IsRun, IsRunFrom, last_state}
+pub use Rattle.deck9.specs.Run.{Ends, HasRun, IsRun, IsRunFrom, last_state, on_through}
 pub use Rattle.deck9.specs.Shows.{Agrees, sense_of, Shows, shown_by, ShowsStatus, Tells}
 pub use Rattle.deck9.specs.State.{entry_of, IsEntry, IsFirst, IsState, MayBeOn, with_entry}
 pub use Rattle.deck9.specs.Status.{datum, may_show, status_of}
 pub use Rattle.deck9.specs.Step.{AreReached, DeckStep, done, Exchanges, forgotten_with, Goes, ignored, refused}
-pub use Rattle.deck9.specs.Working.{before_forgetting, before_shift, Begins, between, cleared, DriftsAndSteps, PassesOne, PassesTo, some_change, some_outcome, Steps, StepsFromSome}
+pub use Rattle.deck9.specs.Working.{before_forgetting, before_shift, Begins, between, cleared, DriftsAndSteps, lost_entry, MovesAndSteps, PassesOne, PassesTo, some_change, some_outcome, Steps, StepsFromSome, with_losses}
 pub use Rattle.deck9.specs.declared.effect.Change.{Change}
 pub use Rattle.deck9.specs.declared.effect.Change.TheVariants.{Next, Prev, Recall, Reset, SetAt, SetSomewhere}
 pub use Rattle.deck9.specs.declared.effect.Effect.{Effect}

@@ -1,5 +1,5 @@
 -- What the laws say beside the deck's own definitions.
-use Rattle.std.specs.Prelude.{ℕ, ◌≡◌, ◌≢◌, ◌<◌, Bool, true, false, ⊤, List, [], ◌∷◌, Option, Some, None}
+use Rattle.std.specs.Prelude.{ℕ, ◌≡◌, ◌≢◌, ◌<◌, ◌⊎◌, Bool, true, false, ⊤, List, [], ◌∷◌, Option, Some, None}
 use Rattle.std.specs.List.{All}
 use Rattle.tc25.specs.Day.{day}
 use Rattle.tc25.specs.declared.rate.Rate.{Rate}
@@ -13,6 +13,7 @@ use Rattle.deck9.specs.declared.effect.Change.TheVariants.{SetAt}
 use Rattle.deck9.specs.declared.deck.Deck.{Deck}
 use Rattle.deck9.specs.declared.deck.Forgotten.{Forgotten}
 use Rattle.deck9.specs.declared.deck.Forgotten.TheVariants.{Everything, Motion, Nothing, Registers, Tape}
+use Rattle.deck9.specs.declared.going.Going.{Going}
 use Rattle.deck9.specs.declared.mode.Mode.{Mode}
 use Rattle.deck9.specs.declared.mode_set.ModeSet.{ModeSet}
 use Rattle.deck9.specs.declared.profile.Profile.{Profile}
@@ -21,6 +22,7 @@ use Rattle.deck9.specs.declared.state.State.{State}
 use Rattle.deck9.specs.Contradict.{behind_first}
 use Rattle.deck9.specs.Deck.{forgotten_at, forgotten_beside, goals_at, named_beside, way_of}
 use Rattle.deck9.specs.Effect.{Does, effect_of, Forgets, listed_effect}
+use Rattle.deck9.specs.Going.{left_by, may_lose, named_on, nothing_on, on_after, on_at_first}
 use Rattle.deck9.specs.ModeSet.{has}
 use Rattle.deck9.specs.State.{IsState}
 use Rattle.deck9.specs.Status.{may_show}
@@ -94,3 +96,34 @@ DoesNoMore (Some fewer) less (Some goals) more = (m : Mode) → has fewer.0 m �
 pub record SaysNoMore (less more : Option Deck) : Type 0 where
   pub unlisted : (head : ℕ) → DoesNoMore (goals_at less head) (forgotten_at less head) (goals_at more head) (forgotten_at more head)
   pub beside : (head : ℕ) → IsNoMore (named_beside less head) (named_beside more head)
+
+-- ---- what may be going on
+
+-- what goes on in the first goes on in the second
+pub record IsPartOf (less more : Going) : Type 0 where
+  pub modes : (m : Mode) → has less.modes.0 m ≡ true → has more.modes.0 m ≡ true
+  pub lost : (r : Register) → may_lose less.lost r ≡ true → may_lose more.lost r ≡ true
+
+-- what may be going on at a deck of the first kind may be at one of the second, at first and after each exchange
+pub record GoesOnNoMore (less more : Option Deck) : Type 0 where
+  pub at_first : IsPartOf (on_at_first less) (on_at_first more)
+  pub after : (b : Bool) (e : Exchange) (g h : Going) → IsPartOf g h → IsPartOf g (on_at_first less) → IsPartOf (on_after less b e g) (on_after more b e h)
+
+-- ---- in a sheet's own words
+
+-- the command leaves nothing going on where nothing is named for it
+abbrev pub LeavesNothing : Command → Type 0
+LeavesNothing command = (g : Going) → left_by (listed_effect command) g ≡ nothing_on
+
+-- what is named in the first for a command is a part of what is in the second. Where only the second names something, the command leaves
+-- nothing without that, or that has all that the first names
+abbrev pub NamedIsPartOf : Going → Command → Option Going → Option Going → Type 0
+NamedIsPartOf all command None None = ⊤
+NamedIsPartOf all command None (Some more) = LeavesNothing command ⊎ IsPartOf all more
+NamedIsPartOf all command (Some less) None = ⊥
+NamedIsPartOf all command (Some less) (Some more) = IsPartOf less more
+
+-- so it is for each command, and for all that is named
+pub record NamesNoMore (less more : Option Deck) : Type 0 where
+  pub all : IsPartOf (on_at_first less) (on_at_first more)
+  pub at : (command : Command) (head : ℕ) → NamedIsPartOf (on_at_first less) command (named_on less head) (named_on more head)

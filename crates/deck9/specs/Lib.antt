@@ -2,6 +2,7 @@ pub mod Contradict
 pub mod Deck
 pub mod Drift
 pub mod Effect
+pub mod Going
 pub mod Knowledge
 pub mod Laws
 pub mod Local

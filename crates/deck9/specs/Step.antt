@@ -11,6 +11,7 @@ use Rattle.deck9.specs.declared.deck.Forgotten.TheVariants as forgotten
 use Rattle.deck9.specs.declared.profile.Profile.{Profile}
 use Rattle.deck9.specs.declared.state.State.{State}
 use Rattle.deck9.specs.Deck.{forgotten_beside}
+use Rattle.deck9.specs.declared.going.Going.{Going}
 use Rattle.deck9.specs.Drift.{Drift}
 use Rattle.deck9.specs.Effect.{Does, effect_of, Forgets}
 use Rattle.deck9.specs.Local.{may_ignore}
@@ -25,17 +26,17 @@ pub data DeckStep (p : Profile) (command : Command) (reply : Block) (s t : State
   -- a deck in LOCAL ignores a listed transport or preset command
   ignored : is_nak reply ≡ false → Shows p.rate s command reply → may_ignore command ≡ true → s.local ≡ true → t ≡ s → DeckStep p command reply s t
 
--- the deck drifts, and then does the step
-abbrev pub Exchanges : Profile → Command → Block → State → State → Type 0
-Exchanges p command reply s t = (d : State) × Drift p s d × DeckStep p command reply d t
+-- the deck drifts, where this may be going on, and then does the step
+abbrev pub Exchanges : Profile → Going → Command → Block → State → State → Type 0
+Exchanges p on command reply s t = (d : State) × Drift p on s d × DeckStep p command reply d t
 
 -- what the deck forgets with an exchange beside the effect of its command: nothing where that got a NAK
 abbrev pub forgotten_with : Option Deck → Exchange → Forgotten
 forgotten_with deck e = if is_nak e.reply then forgotten.Nothing else forgotten_beside deck e.command (head_of e.block)
 
 -- what an exchange does: the deck drifts, does the step, and forgets what its sheet names besides
-abbrev pub Goes : Profile → Exchange → State → State → Type 0
-Goes p e s t = (u : State) × Exchanges p e.command e.reply s u × Forgets p (forgotten_with p.deck e) u t
+abbrev pub Goes : Profile → Going → Exchange → State → State → Type 0
+Goes p on e s t = (u : State) × Exchanges p on e.command e.reply s u × Forgets p (forgotten_with p.deck e) u t
 
 -- the new states are exactly those that a step leads to from one of the old
 abbrev pub AreReached : (State → Type 0) → (State → State → Type 0) → (State → Type 0) → Type 0

@@ -1,6 +1,6 @@
 -- What the clauses of the search for a run cite.
 pub mod Codes
-use Rattle.std.specs.Prelude.{◌≡◌, Bool, true}
+use Rattle.std.specs.Prelude.{◌≡◌, Bool, true, if◌then◌else◌}
 use Rattle.block9.specs.declared.exchange.Exchange.{Exchange}
 use Rattle.tc25.specs.Day.{next_frame, prev_frame}
 use Rattle.tc25.specs.declared.rate.Rate.{Rate}
@@ -10,15 +10,19 @@ use Rattle.deck9.specs.declared.effect.Change.{Change}
 use Rattle.deck9.specs.declared.effect.Change.TheVariants.{Next, Prev, SetAt, SetSomewhere}
 use Rattle.deck9.specs.declared.effect.Effect.{Effect}
 use Rattle.deck9.specs.declared.effect.Effect.TheVariants as effect
+use Rattle.deck9.specs.declared.going.Going.{Going}
 use Rattle.deck9.specs.declared.mode.Mode.{Mode}
 use Rattle.deck9.specs.declared.state.Entry.{Entry}
 use Rattle.deck9.specs.declared.state.Entry.TheVariants.{At, Clear}
 use Rattle.deck9.specs.declared.profile.Profile.{Profile}
+use Rattle.deck9.specs.declared.state.Register.{Register}
+use Rattle.deck9.specs.declared.state.Register.TheVariants.{RegIn, RegOut, RegAudioIn, RegAudioOut}
 use Rattle.deck9.specs.declared.state.State.{State}
 use Rattle.deck9.specs.Deck.{way_of}
 use Rattle.deck9.specs.Drift.{KeepsRest, PairReaches}
 use Rattle.deck9.specs.Effect.{Forgets, moved_entry, switched, with_forgotten}
-use Rattle.deck9.specs.ModeSet.{has}
+use Rattle.deck9.specs.Going.{may_lose, on_at_first}
+use Rattle.deck9.specs.ModeSet.{either, has}
 use Rattle.deck9.specs.State.{IsFirst, IsState, entry_of, with_entry}
 use Rattle.deck9.specs.Step.{DeckStep, forgotten_with, Goes}
 
@@ -26,17 +30,35 @@ use Rattle.deck9.specs.Step.{DeckStep, forgotten_with, Goes}
 abbrev pub Steps : Profile → Exchange → State → State → Type 0
 Steps p e d t = (u : State) × DeckStep p e.command e.reply d u × Forgets p (forgotten_with p.deck e) u t
 
--- a mode on the way to the goal becomes the shown one, and then comes the step
-abbrev pub PassesTo : Profile → Exchange → State → State → Mode → Type 0
-PassesTo p e s t m = (has (way_of p.deck s.goal).0 m ≡ true) × Steps p e (record s { shown = m }) t
+-- a mode on the way to the goal, or one that may be going on, becomes the shown one, and then comes the step
+abbrev pub PassesTo : Profile → Going → Exchange → State → State → Mode → Type 0
+PassesTo p on e s t m = (has (either (way_of p.deck s.goal) on.modes).0 m ≡ true) × Steps p e (record s { shown = m }) t
 
 -- the same of some mode
-abbrev pub PassesOne : Profile → Exchange → State → State → Type 0
-PassesOne p e s t = (m : Mode) × PassesTo p e s t m
+abbrev pub PassesOne : Profile → Going → Exchange → State → State → Type 0
+PassesOne p on e s t = (m : Mode) × PassesTo p on e s t m
 
--- the mechanics drift, and then comes the step
-abbrev pub DriftsAndSteps : Profile → Exchange → State → State → Type 0
-DriftsAndSteps p e s t = (d : State) × KeepsRest s d × PairReaches p.deck s.goal s.shown d.goal d.shown × Steps p e d t
+-- the mechanics drift, registers may be lost, and then comes the step
+abbrev pub DriftsAndSteps : Profile → Going → Exchange → State → State → Type 0
+DriftsAndSteps p on e s t = (d : State) × KeepsRest on s d × PairReaches p.deck on s.goal s.shown d.goal d.shown × Steps p e d t
+
+-- the mechanics drift, and then comes the step, where nothing more of the registers is lost
+abbrev pub MovesAndSteps : Profile → Going → Exchange → State → State → Type 0
+MovesAndSteps p on e s t = (goal shown : Mode) × PairReaches p.deck on s.goal s.shown goal shown × Steps p e (record s { goal = goal; shown = shown }) t
+
+-- an entry as it stands right before a step that leads to this one: lost, where it may be, and is clear behind the step
+abbrev pub lost_entry : Going → Register → Entry → Entry → Entry
+lost_entry on r Clear old = if may_lose on.lost r then Clear else old
+lost_entry on r (At t) old = old
+
+-- a state before such a step, without what was lost of its registers
+abbrev pub with_losses : Going → State → State → State
+with_losses on after s = record s {
+  ins = lost_entry on RegIn after.ins s.ins;
+  outs = lost_entry on RegOut after.outs s.outs;
+  ains = lost_entry on RegAudioIn after.ains s.ains;
+  aouts = lost_entry on RegAudioOut after.aouts s.aouts;
+}
 
 -- the step comes from some state with the panel on or off
 abbrev pub StepsFromSome : Profile → Exchange → Bool → State → Type 0
@@ -44,7 +66,7 @@ StepsFromSome p e on t = (d : State) × IsState p.rate d × (d.panel ≡ on) × 
 
 -- a first exchange: from some first state
 abbrev pub Begins : Profile → Exchange → State → Type 0
-Begins p e t = (s : State) × IsFirst p s × Goes p e s t
+Begins p e t = (s : State) × IsFirst p s × Goes p (on_at_first p.deck) e s t
 
 -- the state from which a shift leads to this one; the state itself where the effect is no shift
 abbrev pub before_shift : Rate → Effect → State → State

@@ -1,6 +1,7 @@
 //! What the rules leave to each deck: what it forgets at some commands, or beside their effects, where others may lead, which modes it
 //! may show on the way to its goal, and which replies it gives beside those of the tables; and what its commands are called.
 
+use crate::going::Going;
 use crate::mode_set::ModeSet;
 use arrayvec::ArrayVec;
 use block9::ReplyForm;
@@ -34,6 +35,9 @@ pub struct Deck {
     /// What it forgets at a command beside the command's own effect, by the first two bytes of the command's block as one number:
     /// nothing at one that is not named here, nor at one that asks for something of the state.
     pub also_forgets: BTreeMap<u32, Forgotten>,
+    /// What it may do by itself after a command, until another ends it, by the first two bytes of the command's block as one number.
+    /// At a command that is not named here what was going on ends, or goes on, as the command's effect says.
+    pub acts: BTreeMap<u32, Going>,
     /// The modes that it may show on the way to each goal, in the order of the modes.
     pub ways: [ModeSet; 10],
     /// The names of commands that are not listed, in ASCII, by the first two bytes of the command's block as one number.

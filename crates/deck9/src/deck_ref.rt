@@ -1,8 +1,10 @@
 //! The deck of a profile, if it has one: what it does in place of what the rules say of every deck.
-ghost use Rattle.std.specs.Prelude.{◌≡◌, None, slice_index_or};
+ghost use Rattle.std.specs.Prelude.{◌≡◌, None, false, slice_index_or, true};
 ghost use Rattle.block9.specs.Block.{head_of};
 ghost use Rattle.deck9.specs.Deck.{forgotten_at, forgotten_beside, forgotten_by_group, goals_at, replies_of, way_of};
 ghost use Rattle.deck9.specs.Effect.{effect_of};
+ghost use Rattle.deck9.specs.Going.{all_with, named_on, nothing_on, on_after, on_at_first};
+ghost use Rattle.std.specs.BTreeMap.{values};
 ghost use Rattle.deck9.specs.Mode.{index_of};
 ghost use Rattle.deck9.specs.ModeSet.{modes};
 ghost use Rattle.deck9.specs.Step.{forgotten_with};
@@ -10,6 +12,7 @@ ghost use Rattle.deck9.specs.declared.mode.Mode.{Mode as AMode};
 
 use crate::deck::{Deck, Forgotten};
 use crate::effect::Effect;
+use crate::going::Going;
 use crate::mode::Mode;
 use crate::mode_set::ModeSet;
 use crate::sense::Sense;
@@ -107,6 +110,48 @@ impl<'a> DeckRef<'a> {
         }
     }
 
+    /// What may be going on before a capture: all that is named.
+    pub fn on_at_first(&self) -> Going
+        ensures { result ≡ on_at_first self.now }
+    {
+        match self.0 {
+            Some(deck) => all_named(deck),
+            None => Going::NOTHING,
+        }
+    }
+
+    /// What is named for the command with this head.
+    fn named_on(&self, head: u32) -> Option<Going>
+        ensures { result ≡ named_on self.now head }
+    {
+        self.0?.acts.get(&head).copied()
+    }
+
+    /// What goes on after an exchange, where this went on before it.
+    #[inline(always)] // it is asked of every exchange
+    pub fn on_after(&self, exchange: &Exchange, going: Going) -> Going
+        ensures { result ≡ on_after self.now true exchange.now going }
+    {
+        if exchange.reply.is_nak() {
+            return going;
+        }
+        match self.named_on(exchange.block.head()) {
+            Some(named) => named,
+            None if going == Going::NOTHING => going, // nearly always: nothing of it can end
+            None => going.left_by(&Effect::listed(&exchange.command)),
+        }
+    }
+
+    /// The same where the reply is not known.
+    pub fn on_after_unknown(&self, exchange: &Exchange, going: Going) -> Going
+        ensures { result ≡ on_after self.now false exchange.now going }
+    {
+        match self.named_on(exchange.block.head()) {
+            Some(named) => going.together(named),
+            None => going,
+        }
+    }
+
     /// The modes that it may show on the way to each goal, in the order of the modes.
     #[inline(always)] // it is asked of every exchange
     pub fn ways(&self) -> &'a [ModeSet; 10]
@@ -134,6 +179,17 @@ impl<'a> DeckRef<'a> {
             None => NamedReplies::none(),
         }
     }
+}
+
+/// All that is named of what a deck may do by itself.
+fn all_named(deck: &Deck) -> Going
+    ensures { result ≡ all_with nothing_on (values deck.now.acts) }
+{
+    let mut all = Going::NOTHING;
+    for named in deck.acts.values() {
+        all = all.together(*named);
+    }
+    all
 }
 
 /// What is forgotten at a command that is not listed and not named, by its group.

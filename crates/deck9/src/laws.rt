@@ -8,11 +8,13 @@ ghost use Rattle.block9.specs.declared.command.Command.{Command};
 ghost use Rattle.block9.specs.declared.exchange.Exchange.{Exchange};
 ghost use Rattle.deck9.specs.Contradict.{CanPass, HasBelieving};
 ghost use Rattle.deck9.specs.declared.deck.Deck.{Deck as ADeck};
+ghost use Rattle.deck9.specs.declared.going.Going.{Going as AGoing};
+ghost use Rattle.deck9.specs.Going.{nothing_on, on_at_first};
 ghost use Rattle.deck9.specs.Drift.{Drift, DriftsTo};
-ghost use Rattle.deck9.specs.Laws.{AreAnswered, ForgetsNoMore, ForgetsNothingBeside, IsNoMore, IsRightReply, PassesNoMore, SaysNoMore, SetsInDay, ShowJust};
+ghost use Rattle.deck9.specs.Laws.{AreAnswered, ForgetsNoMore, ForgetsNothingBeside, GoesOnNoMore, IsNoMore, IsRightReply, NamesNoMore, PassesNoMore, SaysNoMore, SetsInDay, ShowJust};
 ghost use Rattle.deck9.specs.Local.{may_ignore};
 ghost use Rattle.deck9.specs.Mode.{index_of, is_mode};
-ghost use Rattle.deck9.specs.Run.{Ends, HasRun};
+ghost use Rattle.deck9.specs.Run.{Ends, HasRun, on_through};
 ghost use Rattle.deck9.specs.State.{IsFirst, IsState};
 ghost use Rattle.deck9.specs.Status.{may_show};
 ghost use Rattle.deck9.specs.Effect.{Does, Forgets};
@@ -34,15 +36,16 @@ pub fn modes_in_their_order()
 
 /// A deck need not drift, and a drift after a drift is one.
 pub fn drifts_join()
-    ensures none { (p : Profile) (s : State) → Drift p s s }
-    ensures more { (p : Profile) (s t u : State) → Drift p s t → Drift p t u → Drift p s u }
+    ensures none { (p : Profile) (on : AGoing) (s : State) → Drift p on s s }
+    ensures more { (p : Profile) (on : AGoing) (s t u : State) → Drift p on s t → Drift p on t u → Drift p on s u }
 {}
 
 /// A drift, any finite number of moves, comes to one of these pairs of goal and shown mode: the goal with the mode shown before, with
-/// itself, or with a mode on the way to it; STOP with itself, or with a mode on the way to it. Or where hands are allowed and the panel
-/// is on, it comes to any state with the panel on.
+/// itself, or with a mode on the way to it; STOP with itself, or with a mode on the way to it; or either with a mode that may be going
+/// on. Of the registers each that may be lost stays or is clear. Or where hands are allowed and the panel is on, it comes to any state
+/// with the panel on.
 pub fn a_drift_by_pairs()
-    ensures { (p : Profile) (s t : State) → Drift p s t ↔ DriftsTo p s t }
+    ensures { (p : Profile) (on : AGoing) (s t : State) → Drift p on s t ↔ DriftsTo p on s t }
 {}
 
 /// A NAK, whatever its reasons and whatever was asked, leads from a state to the same state and to no other.
@@ -60,12 +63,13 @@ pub fn hands_explain_no_less()
     ensures { (rate : Rate) (deck : Option ADeck) (es : List Exchange) → HasRun (record { rate = rate; hands = Hands.None; deck = deck }) es → HasRun (record { rate = rate; hands = Hands.Allowed; deck = deck }) es }
 {}
 
-/// A deck at which each command does no more than at another, beside which no more is forgotten, and that has no more modes on the
-/// way to each goal, has a run only where the other has one, and each state in which its runs end is one in which runs of the other do.
+/// A deck at which each command does no more than at another, beside which no more is forgotten, that has no more modes on the way to
+/// each goal, and where no more may be going on, has a run only where the other has one, and each state in which its runs end is one in
+/// which runs of the other do.
 pub fn a_sheet_that_forgets_less()
-    ensures runs { (p : Profile) (less more : Option ADeck) (es : List Exchange) → ForgetsNoMore p less more → PassesNoMore less more
+    ensures runs { (p : Profile) (less more : Option ADeck) (es : List Exchange) → ForgetsNoMore p less more → PassesNoMore less more → GoesOnNoMore less more
         → HasRun (record p { deck = less }) es → HasRun (record p { deck = more }) es }
-    ensures ends { (p : Profile) (less more : Option ADeck) (es : List Exchange) (t : State) → ForgetsNoMore p less more → PassesNoMore less more
+    ensures ends { (p : Profile) (less more : Option ADeck) (es : List Exchange) (t : State) → ForgetsNoMore p less more → PassesNoMore less more → GoesOnNoMore less more
         → Ends (record p { deck = less }) es t → Ends (record p { deck = more }) es t }
 {}
 
@@ -74,6 +78,13 @@ pub fn a_sheet_that_forgets_less()
 /// and beside each, forgets no more.
 pub fn a_sheet_that_says_less()
     ensures { (p : Profile) (less more : Option ADeck) → SaysNoMore less more → ForgetsNoMore p less more }
+{}
+
+/// In a sheet's own words: where what it names for each command is a part of what another sheet names for it, no more may be going on.
+/// For a command for which it names nothing the other may name anything, if that command leaves nothing without a name, and else all
+/// that the sheet names.
+pub fn a_sheet_that_names_less()
+    ensures { (less more : Option ADeck) → NamesNoMore less more → GoesOnNoMore less more }
 {}
 
 /// A command that may lead to some goals, and forgets this beside that, does no more than one that forgets the motion and this.
@@ -87,7 +98,7 @@ pub fn goals_lead_to_no_more()
 pub fn states_after_one_more()
     ensures none { (p : Profile) (s : State) → Ends p [] s ↔ IsFirst p s }
     ensures more { (p : Profile) (es : List Exchange) (e : Exchange)
-        → AreReached (Ends p es) (Goes p e) (Ends p (es ++ e ∷ [])) }
+        → AreReached (Ends p es) (Goes p (on_through p (on_at_first p.deck) es) e) (Ends p (es ++ e ∷ [])) }
 {}
 
 /// There is a state in which runs end exactly where there is a run.
@@ -114,12 +125,13 @@ pub fn some_reply_passes()
 {}
 
 /// Replies that contradict one another no deck can have given, whatever it answered to everything else. Replies that do not some
-/// deck can have given with some other answers, unless something is forgotten beside a command's effect: a deck in REMOTE whose
-/// reply is not believed may have left a command undone and forgotten, and no reply shows that.
+/// deck can have given with some other answers, unless something is forgotten beside a command's effect, or may be going on: a deck in
+/// REMOTE whose reply is not believed may have left a command undone and forgotten, and no reply shows that; nor does one show that a
+/// command was done and what went on before it goes on.
 pub fn whatever_else_was_answered()
     ensures contradict { (p : Profile) (is_believed : ℕ → Bool) (es fs : List Exchange)
         → AreAnswered p.rate is_believed es fs → HasRun p fs → HasBelieving p is_believed es }
-    ensures answered { (p : Profile) (is_believed : ℕ → Bool) (es : List Exchange) → ForgetsNothingBeside p.deck
+    ensures answered { (p : Profile) (is_believed : ℕ → Bool) (es : List Exchange) → ForgetsNothingBeside p.deck → on_at_first p.deck ≡ nothing_on
         → HasBelieving p is_believed es → (fs : List Exchange) × AreAnswered p.rate is_believed es fs × HasRun p fs }
 {}
 

@@ -1,14 +1,15 @@
 -- The same records at other times: which rules one record more breaks, and for which reason; and runs of exchanges that came at other times.
 use Rattle.judge9.proofs.Words.{[], ap, append_assoc, Applies, AreRetimed, arith, BeginsLate, Block, Breaks, cases_lt, Command, Controller, Counts, Cut, cut_once, Deck}
-use Rattle.judge9.proofs.Words.{Ends, Exchange, first_holds, HasRun, Holds, in_parts, in_reply_of, inl, inr, IsFirst, IsOk, IsTail, last_time, last_time-append}
+use Rattle.judge9.proofs.Words.{Ends, Exchange, first_holds, goes_on, HasRun, Holds, in_parts, in_reply_of, inl, inr, IsFirst, IsOk, IsTail, last_time, last_time-append}
 use Rattle.judge9.proofs.Words.{LeftAside, length, length_push, line_rules, LineByte, LineRules, List, map, order, place_in_command, place_of_command, Profile, Reason}
 use Rattle.judge9.proofs.Words.{refl, reply_limit, ReplyLimit, some_end, State, sym, tail_by_kept, Terms, terms_of, untimed, whole_long, Wire, ◌++◌, ◌+◌, ◌<◌, ◌∙◌, ◌∷◌}
-use Rattle.judge9.proofs.Words.{◌≡◌, ◌≤◌, ◌⊎◌}
+use Rattle.judge9.proofs.Words.{on_at_first, true, ◌≡◌, ◌≤◌, ◌⊎◌}
 use Rattle.block9.specs.Reason.{EndsReply, IsAnswered, IsOpen as IsOpenBlock, IsWholeCommand}
 use Rattle.judge9.proofs.RetimedRecords.{IsSoon, SameGap, answer_retimed, aside_soon, begun_retimed, by_limit, command_retimed, exchange_retimed, first_retimed}
 use Rattle.judge9.proofs.RetimedRecords.{next_pace, nothing_retimed, parted, retimed_back, retimed_bytes, retimed_len, soon_more, tail_soon, whole_retimed}
 use Rattle.block9.proofs.CutLemmas.{kept_no_fault}
 use Rattle.deck9.specs.Run.{IsRunFrom}
+use Rattle.deck9.specs.declared.going.Going.{Going}
 use Rattle.std.proofs.lemmas.List.{map-append}
 use Rattle.judge9.proofs.CutSteps.{cut-exchange}
 use Rattle.judge9.proofs.LawLemmas.{cut_tail, kept_of}
@@ -137,14 +138,14 @@ late_or_not rules t r (IsTail.after_command b c h) = by r.wire refl (cases_lt (l
 -- ---- exchanges with the same commands and replies
 
 -- they have the same runs
-run_untimed : (profile : Profile) (s : State) (es : List Exchange) (ts : List State) → IsRunFrom profile s es ts ≡ IsRunFrom profile s (map untimed es) ts
-run_untimed profile s (e ∷ es) (t ∷ ts) = rw (run_untimed profile t es ts)
-run_untimed profile s es ts = refl
+run_untimed : (profile : Profile) (on : Going) (s : State) (es : List Exchange) (ts : List State) → IsRunFrom profile on s es ts ≡ IsRunFrom profile on s (map untimed es) ts
+run_untimed profile on s (e ∷ es) (t ∷ ts) = rw (run_untimed profile (goes_on profile true e on) t es ts)
+run_untimed profile on s es ts = refl
 
 -- and are known to end in the same states
 pub ends_untimed : (profile : Profile) (es fs : List Exchange) → map untimed es ≡ map untimed fs → (s : State) → Ends profile es s → Ends profile fs s
 ends_untimed profile es fs h s ends =
-    search (rw (run_untimed profile ends.first es ends.after, h, ← (run_untimed profile ends.first fs ends.after)) at ends.is_run)
+    let on = on_at_first profile.deck in search (rw (run_untimed profile on ends.first es ends.after, h, ← (run_untimed profile on ends.first fs ends.after)) at ends.is_run)
 
 pub run_retimed : (profile : Profile) (es fs : List Exchange) → map untimed es ≡ map untimed fs → HasRun profile es → HasRun profile fs
 run_retimed profile es fs h run =

@@ -33,7 +33,7 @@ begun {terms = terms} {j = j} begins read = record {
   is_part = record { cut = (refl, IsTail.nothing refl); run = run_start terms.profile; are_events = refl };
   number = refl;
   open_records = rw begins.fed_nothing;
-  follows = follows-start terms.profile j.follower.tracker begins.states begins.profile;
+  follows = follows-start terms.profile j.follower.tracker begins.states begins.profile begins.going;
   no_reason = rw begins.fed_nothing;
   same_rules = rw begins.fed_nothing;
   in_order = rw begins.fed_nothing (λ x e. cc);
@@ -82,7 +82,7 @@ module _ {R : Type 0} {limit : ℕ} {terms : Terms} {rows : Option Rows} {past :
 
   -- the tracker has observed one exchange more
   pub observed_more : {k : Tracked} {e : Exchange} {b : Bool} → Observes j.follower.tracker k e b → KeepsEnds terms.profile (part.exchanges ++ e ∷ []) k
-  observed_more {k = k} {e = e} o = follows-more terms.profile part.exchanges e j.follower.tracker k h.follows o.reached o.profile
+  observed_more {k = k} {e = e} o = follows-more terms.profile part.exchanges e j.follower.tracker k h.follows o.reached o.profile o.going
 
   -- ---- a record that breaks a rule
 

@@ -1,6 +1,6 @@
 -- What is told of records up to a first break has one text, which that of first records begins.
 use Rattle.judge9.proofs.Words.{[], ap, append-nil, append_assoc, AreEvents, AreTextsOf, BrokenPart, counting, Event, exchange, HasRun, IsBreakText, IsEvent, IsEventText, known_of_ends, late_reply}
-use Rattle.judge9.proofs.Words.{line_of_exchange, LineByte, List, Profile, refl, sym, Terms, View, ℕ, ◌++◌, ◌∙◌, ◌∷◌, ◌≡◌}
+use Rattle.judge9.proofs.Words.{line_of_exchange, LineByte, List, on_at_first, on_through, Profile, refl, sym, Terms, View, ℕ, ◌++◌, ◌∙◌, ◌∷◌, ◌≡◌}
 use Rattle.judge9.proofs.Told.{at_once}
 use Rattle.judge9.proofs.WhyOnce.{why_once}
 
@@ -9,7 +9,7 @@ text_once : (view : View) (profile : Profile) (past : ℕ) (before : List LineBy
     → IsEventText view (counting profile) event t → IsEventText view (counting profile) event u → t ≡ u
 text_once view profile past before r (late_reply at asked first) t u is a b = absurd (cc is.2)
 text_once (View.Explain detail) profile past before r (exchange at es e) t u is a b =
-    a.2 ∙ ap (λ k. line_of_exchange detail profile at e k) (known_of_ends profile (es ++ e ∷ []) a.0 b.0 is.2 a.1 b.1) ∙ sym b.2
+    a.2 ∙ ap (λ k. line_of_exchange detail profile at e k (on_through profile (on_at_first profile.deck) (es ++ e ∷ []))) (known_of_ends profile (es ++ e ∷ []) a.0 b.0 is.2 a.1 b.1) ∙ sym b.2
 text_once view profile past before r (exchange at es e) t u is a b = a ∙ sym b
 
 -- the text of first records begins that of all, and is that of all where these are no more

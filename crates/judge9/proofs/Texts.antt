@@ -32,7 +32,7 @@ module _ {view : View} {terms : Terms} where
 exchange_text : {R : Type 0} (view : View) {terms : Terms} {h next : History} {j : Feed R} (es : List Exchange) (us : Option ℕ) (line : List ℕ) (t : TellsExchange terms h next j)
     → IsTextOf view terms.profile j es us Turn.Exchange line → IsEventText view terms (exchange j.rows.given h.part.exchanges t.e) line
 exchange_text (View.Explain detail) {terms = terms} {h = h} {j = j} es us line t (e, shown, known, knows, is) =
-    (known, knowledge_same (Possible j.follower.tracker.states) (Ends terms.profile (h.part.exchanges ++ t.e ∷ [])) known t.knows.states knows, rw (same_exchange shown t.shown) at is)
+    (known, knowledge_same (Possible j.follower.tracker.states) (Ends terms.profile (h.part.exchanges ++ t.e ∷ [])) known t.knows.states knows, rw (same_exchange shown t.shown, t.knows.going) at is)
 exchange_text view es us line t is = is
 
 -- a late reply

@@ -27,7 +27,8 @@ pub use Rattle.capture9.specs.SomeText.{CanBeRows, IsOfSomeText}
 pub use Rattle.capture9.specs.declared.line_byte.Wire.TheVariants.{Controller, Deck, the_data as Wire}
 pub use Rattle.deck9.proofs.RunLemmas.{ends_more, ends_none, some_end}
 pub use Rattle.deck9.proofs.RunSearch.{run_start}
-pub use Rattle.deck9.specs.Run.{HasRun, IsRun}
+pub use Rattle.deck9.specs.Going.{goes_on, on_at_first}
+pub use Rattle.deck9.specs.Run.{HasRun, IsRun, on_through}
 pub use Rattle.deck9.specs.declared.mode.Mode.{Mode}
 pub use Rattle.deck9.specs.declared.state.Register.TheVariants.{the_data as Register}
 pub use Rattle.judge9.specs.Judging.{Answers, Answer, answer_of, IsAnswer, IsAnswerFrom, IsTheAnswer}

@@ -9,7 +9,8 @@ use Rattle.capture9.specs.Rows.{Rows}
 use Rattle.capture9.specs.SomeText.{IsOfSomeText}
 use Rattle.block9.specs.declared.reason.Reason.TheVariants.{LateReply}
 use Rattle.deck9.specs.Knowledge.{IsKnowledge}
-use Rattle.deck9.specs.Run.{Ends}
+use Rattle.deck9.specs.Going.{on_at_first}
+use Rattle.deck9.specs.Run.{Ends, on_through}
 use Rattle.deck9.specs.declared.knowledge.Knowledge.{Knowledge}
 use Rattle.deck9.specs.declared.profile.Profile.{Profile}
 use Rattle.report9.specs.Explanation.{line_of_exchange}
@@ -43,12 +44,13 @@ AreTextsOf IsText (x ∷ all) text =
     (first : List ℕ) × (others : List ℕ) × IsText x first × AreTextsOf IsText all others × (text ≡ first ++ others)
 
 -- what is written of an event: where a late reply begins the line of its break, or why it is late; of an exchange what an explanation
--- shows: what is known of all states that the runs up to it end in
+-- shows: what is known of all states that the runs up to it end in, and what the deck may do by itself then
 abbrev pub IsEventText : View → Terms → Event → List ℕ → Type 0
 IsEventText Why terms (late_reply at asked r) text = (why : WhyNo) × SaysLate (line_rules terms) at asked r why × (text ≡ text_of_why terms.profile why)
 IsEventText view terms (late_reply at asked r) text = text ≡ line_of (No at LateReply)
 IsEventText (Explain detail) terms (exchange at before e) text =
-    (known : Knowledge) × IsKnowledge (Ends terms.profile (before ++ e ∷ [])) known × (text ≡ line_of_exchange detail terms.profile at e known)
+    (known : Knowledge) × IsKnowledge (Ends terms.profile (before ++ e ∷ [])) known
+    × (text ≡ line_of_exchange detail terms.profile at e known (on_through terms.profile (on_at_first terms.profile.deck) (before ++ e ∷ [])))
 IsEventText view terms (exchange at before e) text = text ≡ []
 
 -- what is written at the break of a part: its line, or why the part breaks

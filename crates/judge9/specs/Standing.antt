@@ -1,5 +1,5 @@
 -- Where a judging stands between two events, and what the next one is.
-use Rattle.std.specs.Prelude.{◌≡◌, ◌⊎◌, ◌↔◌, ◌+◌, ◌*◌, ◌-◌, ◌≤◌, ℕ, Bool, false, if◌then◌else◌, IsTrue, List, [], ◌∷◌, ◌++◌, length, Option, Some, None, Result, Ok, Err, ⊤}
+use Rattle.std.specs.Prelude.{◌≡◌, ◌⊎◌, ◌↔◌, ◌+◌, ◌*◌, ◌-◌, ◌≤◌, ℕ, Bool, false, true, if◌then◌else◌, IsTrue, List, [], ◌∷◌, ◌++◌, length, Option, Some, None, Result, Ok, Err, ⊤}
 use Rattle.std.specs.Option.{ForSome}
 use Rattle.capture9.specs.declared.line_byte.LineByte.{LineByte}
 use Rattle.capture9.specs.Fields.{greatest_limit}
@@ -14,6 +14,7 @@ use Rattle.block9.specs.declared.reason.Reason.TheVariants.{NoRun}
 use Rattle.block9.specs.NextPart.{takes_up_at}
 use Rattle.deck9.specs.declared.profile.Profile.{Profile}
 use Rattle.deck9.specs.declared.state.State.{State}
+use Rattle.deck9.specs.Going.{goes_on, on_at_first}
 use Rattle.deck9.specs.State.{IsFirst}
 use Rattle.deck9.specs.Step.{AreReached, Goes}
 use Rattle.track9.specs.Following.{KeepsEnds}
@@ -49,6 +50,7 @@ pub record KnowsNothing (terms : Terms) (f : Follower) : Type 0 where
   pub fed_nothing : f.pairer ≡ record { tail = []; last_time = None; reason = None; exchange = None; rules = line_rules terms }
   pub states : (s : State) → Possible f.tracker.states s ↔ IsFirst terms.profile s
   pub profile : f.tracker.profile ≡ terms.profile
+  pub going : f.tracker.going ≡ on_at_first terms.profile.deck
 
 -- nothing was judged yet
 pub record IsFresh {R : Type 0} (limit : ℕ) (terms : Terms) (j : Feed R) : Type 0 where
@@ -60,8 +62,9 @@ pub record IsFresh {R : Type 0} (limit : ℕ) (terms : Terms) (j : Feed R) : Typ
 
 -- an exchange was observed, and this is whether a state remains
 pub record Observes (old new : Tracked) (e : Exchange) (b : Bool) : Type 0 where
-  pub reached : AreReached (Possible old.states) (Goes old.profile e) (Possible new.states)
+  pub reached : AreReached (Possible old.states) (Goes old.profile old.going e) (Possible new.states)
   pub profile : new.profile ≡ old.profile
+  pub going : new.going ≡ goes_on old.profile true e old.going
   pub remains : IsTrue b ↔ ((s : State) × Possible new.states s)
 
 -- one that ends an exchange, and whether a state of the deck remains with it

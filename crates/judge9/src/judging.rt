@@ -8,7 +8,7 @@ use crate::feed::Feed;
 use crate::stage::Stage;
 use block9::{Exchange, Open};
 use capture9::LineByte;
-use deck9::{Knowledge, ModeSet, Profile};
+use deck9::{Going, Knowledge, ModeSet, Profile};
 use report9::{Extent, JudgeError, Scope, Totals, Verdict};
 use std::alloc::{AllocError, Global};
 use std::io::Read;
@@ -216,6 +216,14 @@ impl<'a, R: Read + Drop> Judging<'a, R> {
         ensures { IsKnowledge (Possible self.now.feed.follower.tracker.states) result }
     {
         self.feed.follower.tracker.knowledge()
+    }
+
+    /// What the deck may do by itself from here on: after the exchange, at an exchange. Takes no memory.
+    #[inline(always)]
+    pub fn going(&self) -> Going
+        ensures { result ≡ self.now.feed.follower.tracker.going }
+    {
+        self.feed.follower.tracker.going()
     }
 
     /// The modes that the deck may show after the exchange, at an exchange. Takes no memory.

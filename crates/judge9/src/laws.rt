@@ -22,7 +22,7 @@ ghost use Rattle.std.specs.List.Sorted.{IsNonDecreasingBy};
 ghost use Rattle.deck9.specs.Run.{Ends, HasRun};
 ghost use Rattle.block9.specs.Replies.{TakesNoMore};
 ghost use Rattle.deck9.specs.Deck.{replies_of};
-ghost use Rattle.deck9.specs.Laws.{ForgetsNoMore, PassesNoMore};
+ghost use Rattle.deck9.specs.Laws.{ForgetsNoMore, GoesOnNoMore, PassesNoMore};
 ghost use Rattle.deck9.specs.declared.deck.Deck.{Deck as ADeck};
 
 use block9::{LineRules, Reason};
@@ -82,13 +82,13 @@ pub fn hands_judge_no_harder()
         → IsAnswer (record { rate = rate; hands = Hands.Allowed; deck = deck }) past rows (judged (Verdict.No other another)) → at ≤ other }
 {}
 
-/// A deck at which each command does no more than at another and takes no more replies, and that has no more modes on the way to
-/// each goal, is held to no less: its yes is the same yes of the other, and where both are a no, that of the other is at no earlier
-/// record.
+/// A deck at which each command does no more than at another and takes no more replies, that has no more modes on the way to each goal,
+/// and where no more may be going on, is held to no less: its yes is the same yes of the other, and where both are a no, that of the
+/// other is at no earlier record.
 pub fn a_sheet_that_allows_less_judges_no_easier()
-    ensures yes { (p : Profile) (less more : Option ADeck) (past : ℕ) (rows : Rows) (records exchanges tail : ℕ) → ForgetsNoMore p less more → TakesNoMore p.rate (replies_of less) (replies_of more) → PassesNoMore less more
+    ensures yes { (p : Profile) (less more : Option ADeck) (past : ℕ) (rows : Rows) (records exchanges tail : ℕ) → ForgetsNoMore p less more → TakesNoMore p.rate (replies_of less) (replies_of more) → PassesNoMore less more → GoesOnNoMore less more
         → IsAnswer (record p { deck = less }) past rows (judged (Verdict.Yes records exchanges tail)) → IsAnswer (record p { deck = more }) past rows (judged (Verdict.Yes records exchanges tail)) }
-    ensures no { (p : Profile) (less more : Option ADeck) (past : ℕ) (rows : Rows) (at other : ℕ) (reason another : Reason) → ForgetsNoMore p less more → TakesNoMore p.rate (replies_of less) (replies_of more) → PassesNoMore less more
+    ensures no { (p : Profile) (less more : Option ADeck) (past : ℕ) (rows : Rows) (at other : ℕ) (reason another : Reason) → ForgetsNoMore p less more → TakesNoMore p.rate (replies_of less) (replies_of more) → PassesNoMore less more → GoesOnNoMore less more
         → IsAnswer (record p { deck = less }) past rows (judged (Verdict.No at reason)) → IsAnswer (record p { deck = more }) past rows (judged (Verdict.No other another)) → at ≤ other }
 {}
 

@@ -128,6 +128,7 @@ impl<'a> Telling<'a> {
             judging.at(),
             judging.exchange(),
             &knowledge,
+            judging.going(),
         )?;
         write_all(writer, self.line.as_slice())?;
         Ok(())

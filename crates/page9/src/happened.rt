@@ -1,4 +1,5 @@
-//! What happened: each command, each query that changed what is known of the deck and each break, in a fold for each stretch of time.
+//! What happened: each command, each query that changed what is known of the deck or what it may do by itself, and each break, in a fold
+//! for each stretch of time.
 
 use crate::folds::{Counted, Folds};
 use crate::html::{
@@ -10,7 +11,7 @@ use report9::{put_command, put_reply};
 use seen9::{SeenBreak, SeenExchange};
 use std::alloc::{AllocError, Global};
 use text9::{Done, Markup, Text};
-use view9::{BreakRun, Change, Changes, FIELDS, Field, Tally, Value, put_changes};
+use view9::{BreakRun, Change, Changes, FIELDS, Field, Tally, Value};
 
 /// What happened in a session.
 #[derive(Drop)]
@@ -190,12 +191,15 @@ impl<'a> Happened<'a> {
         let (text, profile) = (&mut self.text, self.profile);
         text.put_with(|line| put_command(line, "", profile, seen.exchange))
             .put_with(|line| put_reply(line, " -> ", &seen.exchange.reply));
-        put_changes(text, self.changes.as_slice(), profile.rate);
+        self.changes.put(text, profile.rate);
     }
 
     /// Whether all that changed is known again as it was before the last break, or at least that a register is set. That goal or shown
     /// mode are no longer known is no change worth a line.
     fn only_restores(&self) -> bool {
+        if self.changes.is_by_itself() {
+            return false;
+        }
         for change in self.changes.as_slice() {
             if !is_passing(change) && !is_restored(change, self.before_of(change)) {
                 return false;

@@ -12,7 +12,7 @@ pub use Rattle.deck9.specs.declared.state.State.{State}
 pub use Rattle.report9.specs.RunText.{lines_of_run}
 unfoldable pub use Rattle.report9.specs.Bytes.{text_of_block, text_of_head}
 unfoldable pub use Rattle.report9.specs.ExchangeBytes.{text_of_command_sent, text_of_exchange, text_of_records, text_of_reply_given, text_of_reply_sent, words_of}
-unfoldable pub use Rattle.report9.specs.Explanation.{line_of_exchange, text_of_knowledge, text_of_nak}
+unfoldable pub use Rattle.report9.specs.Explanation.{line_of_exchange, text_of_knowledge, text_of_nak, text_of_runs}
 unfoldable pub use Rattle.report9.specs.RunText.{line_of_state}
 pub use Rattle.report9.specs.WhyText.{end_before, lines_at}
 unfoldable pub use Rattle.report9.specs.WhyText.{line_if_ended, line_of_breaking, line_of_could_show, line_of_open, lines_of_break, lines_of_open}

@@ -1,6 +1,7 @@
 -- The line that explains an exchange: what was asked and answered, and what is known of the deck after it.
 use Rattle.std.specs.Prelude.{ℕ, if◌then◌else◌, Bool, true, false, List, [], ◌++◌, unwrap_or, codes}
 use Rattle.std.specs.Fmt.{decimal}
+use Rattle.std.specs.List.{list_any}
 use Rattle.tc25.specs.Day.{text_of}
 use Rattle.tc25.specs.declared.rate.Rate.{Rate}
 use Rattle.block9.specs.declared.block.Block.{Block}
@@ -8,22 +9,27 @@ use Rattle.block9.specs.declared.exchange.Exchange.{Exchange}
 use Rattle.block9.specs.Block.{first_datum, head_of}
 use Rattle.block9.specs.Command.{is_ack, is_nak}
 use Rattle.block9.specs.Nak.{nak_bits}
+use Rattle.deck9.specs.declared.going.Going.{Going}
+use Rattle.deck9.specs.declared.going.Lost.{Lost}
+use Rattle.deck9.specs.declared.going.Lost.TheVariants.{NoRegister, Points, AllRegisters}
 use Rattle.deck9.specs.declared.knowledge.Known.{Known}
 use Rattle.deck9.specs.declared.knowledge.Known.TheVariants as known
 use Rattle.deck9.specs.declared.knowledge.KnownEntry.{KnownEntry}
 use Rattle.deck9.specs.declared.knowledge.KnownEntry.TheVariants as entry
 use Rattle.deck9.specs.declared.knowledge.Knowledge.{Knowledge}
 use Rattle.deck9.specs.declared.mode.Mode.{Mode}
+use Rattle.deck9.specs.declared.mode_set.ModeSet.{ModeSet}
 use Rattle.deck9.specs.declared.profile.Profile.{Profile}
 use Rattle.deck9.specs.declared.state.Hands.{Hands}
 use Rattle.deck9.specs.declared.state.Hands.TheVariants as hands
-use Rattle.deck9.specs.Mode.{name_of as name_of_mode}
+use Rattle.deck9.specs.Mode.{every_mode, name_of as name_of_mode}
+use Rattle.deck9.specs.ModeSet.{has}
 use Rattle.deck9.specs.Names.{name_told}
 use Rattle.deck9.specs.Status.{has_bit}
 use Rattle.report9.specs.declared.detail.Detail.{Detail}
 use Rattle.report9.specs.declared.detail.Detail.TheVariants as detail
 use Rattle.report9.specs.Bytes.{hex_byte, text_of_head}
-use Rattle.report9.specs.ExchangeBytes.{text_of_exchange}
+use Rattle.report9.specs.ExchangeBytes.{text_of_exchange, text_of_modes}
 use Rattle.report9.specs.Row.{in_a_row, names_of}
 
 -- ---- what was asked, and what was answered
@@ -92,6 +98,22 @@ text_of_knowledge p k =
     ++ (codes ", shown " ++ text_of_mode k.shown)
     ++ text_of_fields p k
 
+-- ---- what the deck may do by itself from here on
+
+-- the modes that it may show, whatever its goal: nothing where there is none
+unfoldable pub text_of_runs : ModeSet → List ℕ
+text_of_runs modes = if list_any (has modes.0) every_mode then codes ", may run " ++ text_of_modes modes else []
+
+-- the registers that it may clear
+unfoldable pub text_of_losses : Lost → List ℕ
+text_of_losses NoRegister = []
+text_of_losses Points = codes ", may lose in|out"
+text_of_losses AllRegisters = codes ", may lose in|out|ain|aout"
+
+-- both
+abbrev pub text_of_going : Going → List ℕ
+text_of_going on = text_of_runs on.modes ++ text_of_losses on.lost
+
 -- ---- the line
 
 -- an exchange by its names, or with its bytes, by the number of its reply's last record
@@ -99,7 +121,7 @@ unfoldable pub text_in : Detail → Profile → ℕ → Exchange → List ℕ
 text_in detail.Names p at e = (codes "record " ++ decimal at) ++ (codes ": " ++ text_of_command p e) ++ (codes " -> " ++ text_of_reply e.reply)
 text_in detail.Bytes p at e = text_of_exchange p at e
 
--- the line of an exchange, by the number of its reply's last record and what is known after it
-unfoldable pub line_of_exchange : Detail → Profile → ℕ → Exchange → Knowledge → List ℕ
-line_of_exchange detail p at e k =
-    text_in detail p at e ++ (codes ", delay " ++ decimal e.delay_us) ++ (codes ", " ++ text_of_knowledge p k) ++ codes "\n"
+-- the line of an exchange, by the number of its reply's last record, what is known after it, and what may be going on then
+unfoldable pub line_of_exchange : Detail → Profile → ℕ → Exchange → Knowledge → Going → List ℕ
+line_of_exchange detail p at e k on =
+    text_in detail p at e ++ (codes ", delay " ++ decimal e.delay_us) ++ (codes ", " ++ text_of_knowledge p k) ++ text_of_going on ++ codes "\n"

@@ -1,5 +1,6 @@
 //! The line that explains an exchange, put to the end of a buffer.
 pub(crate) mod asked;
+pub(crate) mod by_itself;
 pub(crate) mod known;
 
 ghost use Rattle.std.specs.Prelude.{◌≡◌, ◌++◌, OnOk, codes};
@@ -11,12 +12,13 @@ use crate::exchange_bytes::put_exchange;
 use crate::pieces::{put_count, put_text};
 use asked::{put_command, put_reply};
 use block9::Exchange;
-use deck9::{Knowledge, Profile};
+use by_itself::put_going;
+use deck9::{Going, Knowledge, Profile};
 use known::put_knowledge;
 use std::alloc::AllocError;
 
-/// Puts the line of an exchange to the end of the buffer: what was asked, what was answered and after how long,
-/// and what is known of the deck after it. `at` is the number of the reply's last record, counted from 1.
+/// Puts the line of an exchange to the end of the buffer: what was asked, what was answered and after how long, what is known of the
+/// deck after it, and what the deck may do by itself from then on. `at` is the number of the reply's last record, counted from 1.
 ///
 /// The panel is told where hands are allowed. An error comes where the buffer has to grow and is refused; then a
 /// part of the line may be there.
@@ -27,13 +29,15 @@ pub fn put_exchange_line_for(
     at: u32,
     exchange: &Exchange,
     knowledge: &Knowledge,
+    going: Going,
 ) -> Result<(), AllocError>
     ensures { OnOk result (line.new.items ≡ line.old.items
-        ++ line_of_exchange detail profile.now at exchange.now knowledge.now) }
+        ++ line_of_exchange detail profile.now at exchange.now knowledge.now going) }
 {
     put_in(line, detail, profile, at, exchange)?;
     put_count(line, ", delay ", exchange.delay_us)?;
     put_knowledge(line, ", ", profile, knowledge)?;
+    put_going(line, going)?;
     put_text(line, "\n")
 }
 

@@ -1,7 +1,7 @@
 //! The way back through the stretches, and over the moves of a hand between them.
 //!
 //! It is not proved to find a run: `is_run_of` is asked whether what it finds is one.
-ghost use Rattle.std.specs.Prelude.{IfOk, IfSome};
+ghost use Rattle.std.specs.Prelude.{◌≡◌, IfOk, IfSome};
 ghost use Rattle.track9.specs.Tracker.{Possible};
 
 use crate::panel::{switch_on_for_hand, switch_panels};
@@ -12,7 +12,7 @@ use block9::Exchange;
 use deck9::{HandMove, State};
 use sets25::SharedSet;
 use std::alloc::AllocError;
-use track9::{Kept, Start, Tracker};
+use track9::{Kept, Lasting, Start, Tracker};
 
 /// A hand that has moved.
 #[derive(Clone, Copy)]
@@ -64,7 +64,9 @@ impl Search<'_> {
         &self,
         exchanges: &[Exchange],
         stretches: &[Stretch],
-    ) -> Result<Option<TouchedRun>, AllocError> {
+    ) -> Result<Option<TouchedRun>, AllocError>
+        requires { self.now.lasting ≡ Lasting.Throughout }
+    {
         let mut run = TouchedRun {
             states: Vec::new(self.alloc),
             moves: Vec::new(self.alloc),
@@ -89,7 +91,9 @@ impl Search<'_> {
         exchanges: usize,
         stretches: &[Stretch],
         run: &mut TouchedRun,
-    ) -> Result<bool, AllocError> {
+    ) -> Result<bool, AllocError>
+        requires { self.now.lasting ≡ Lasting.Throughout }
+    {
         let mut place = exchanges;
         let mut hand = None;
         for stretch in stretches.iter().rev() {
@@ -113,7 +117,9 @@ impl Search<'_> {
         stretch: &Stretch,
         hand: &Option<Hand>,
         run: &mut TouchedRun,
-    ) -> Result<Option<State>, AllocError> {
+    ) -> Result<Option<State>, AllocError>
+        requires { self.now.lasting ≡ Lasting.Throughout }
+    {
         let last = stretch.last()?;
         let end = put_move(&last, hand, &mut run.moves);
         drop(last);

@@ -21,7 +21,7 @@ use block9::Exchange;
 use deck9::{Hands, Profile, State, is_run_of};
 use sets25::SpanSet;
 use std::alloc::{AllocError, Global};
-use track9::{Start, Tracker};
+use track9::{Lasting, Start, Tracker};
 
 /// The states after each of these exchanges in a run that ends in a state of this tracker, or, where hands are allowed,
 /// in one with the fewest moves of a hand, which keeps what it can.
@@ -44,7 +44,9 @@ pub fn states_of_run(
             return Ok(run.states);
         }
     }
-    Search::of(alloc, profile, exchanges.len(), spans).states_to(exchanges, end)
+    Search::of(alloc, profile, Lasting::UntilEnded, exchanges.len(), spans).states_to(
+        exchanges, end,
+    )
 }
 
 /// A run of these exchanges with the fewest moves of a hand, each of which keeps what it can, or `None` where no such run was
@@ -77,7 +79,7 @@ fn found_run(
 ) -> Result<Option<TouchedRun>, AllocError> {
     let mut spans = MostSpans::none();
     let parts = parts_of(alloc, profile, exchanges, &mut spans)?;
-    let search = Search::of(alloc, profile, exchanges.len(), spans);
+    let search = Search::of(alloc, profile, Lasting::Throughout, exchanges.len(), spans);
     let stretches = search.stretches(&parts)?;
     let run = search.run_through(exchanges, &stretches);
     drop(stretches);
@@ -138,7 +140,7 @@ fn place_of_hand(
         if may_be_on {
             place = at;
         }
-        if !tracker.take(exchange)? {
+        if !tracker.take_as(exchange, Lasting::Throughout)? {
             return Ok(Some(place));
         }
         may_be_on = may_be_on_after(profile, exchange, may_be_on);

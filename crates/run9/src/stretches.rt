@@ -10,9 +10,9 @@ use crate::search::Search;
 use block9::Exchange;
 use sets25::SharedSet;
 use std::alloc::AllocError;
-use track9::{Kept, Start, Tracker};
+use track9::{Kept, Lasting, Start, Tracker};
 
-/// A stretch of a deck that nobody touches.
+/// A stretch of a deck that nobody touches. A hand before it may have begun all that the deck does by itself, so that lasts throughout.
 #[derive(Drop)]
 pub(crate) struct Stretch<'a, 'e> {
     /// Its exchanges.
@@ -72,10 +72,10 @@ impl<'a> Search<'a> {
 impl<'a, 'e> Stretch<'a, 'e> {
     /// The states in which it may end.
     pub(crate) fn last(&self) -> Result<Tracker<'a, SharedSet>, AllocError>
-        ensures { IfOk result (FollowsFrom self.now.first self.now.exchanges.now) }
+        ensures { IfOk result (FollowsFrom Lasting.Throughout self.now.first self.now.exchanges.now) }
     {
         let mut last = self.first.snapshot()?;
-        match last.follow(self.exchanges) {
+        match last.follow_as(self.exchanges, Lasting::Throughout) {
             Ok(()) => Ok(last),
             Err(error) => {
                 drop(last);
@@ -141,7 +141,7 @@ fn kept_by_hand(found: &Tracker<SharedSet>, exchanges: &[Exchange]) -> Result<Ke
 /// Whether a state remains of the tracker's after these exchanges.
 fn goes_on(tracker: &mut Tracker<SharedSet>, exchanges: &[Exchange]) -> Result<bool, AllocError> {
     for exchange in exchanges {
-        if !tracker.take(exchange)? {
+        if !tracker.take_as(exchange, Lasting::Throughout)? {
             return Ok(false);
         }
     }

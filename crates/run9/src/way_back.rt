@@ -12,13 +12,12 @@ ghost use Rattle.run9.specs.declared.way_back.Mark.{Mark as AMark};
 ghost use Rattle.track9.specs.Following.{KeepsEnds, LeadsFrom};
 ghost use Rattle.track9.specs.Tracker.{Possible};
 
-use crate::pace::Pace;
 use crate::search::Search;
 use block9::Exchange;
 use deck9::State;
 use sets25::{SharedSet, SpanSet};
 use std::alloc::AllocError;
-use track9::Tracker;
+use track9::{Lasting, Tracker};
 
 /// A tracker, and how many of the exchanges come before it.
 #[derive(Drop)]
@@ -36,6 +35,7 @@ impl Search<'_> {
     ) -> Result<Vec<State>, AllocError>
         requires keeps { KeepsEnds self.now.profile.now exchanges.now end.now }
         requires some { (s : AState) × Possible end.now.states s }
+        requires lasting { self.now.lasting ≡ Lasting.UntilEnded }
         ensures { IfOk result (λ states. IsRun self.now.profile.now exchanges.now states.items) }
     {
         let Some(last) = end.member() else {
@@ -62,47 +62,47 @@ impl Search<'_> {
         end: State,
         states: &mut Vec<State>,
     ) -> Result<State, AllocError>
-        requires { LeadsFrom first.now exchanges.now end }
-        ensures { IfOk result (GoesBack first.now.profile (Possible first.now.states) exchanges.now end states.old.items states.new.items) }
+        requires { LeadsFrom self.now.lasting first.now exchanges.now end }
+        ensures { IfOk result (GoesBack self.now.lasting first.now.profile first.now.going (Possible first.now.states) exchanges.now end states.old.items states.new.items) }
     {
         let mut marks = Vec::new(self.alloc);
         let mut state = end;
         let mut at = exchanges.len();
         while at > 0 {
             at -= 1;
-            lead_up(first, &mut marks, exchanges, at, self.pace)?;
+            self.lead_up(first, &mut marks, exchanges, at)?;
             state = step_back_to_nearest(first, &marks, &exchanges[at], state, states)?;
             drop(marks.pop());
         }
         Ok(state)
     }
-}
 
-/// Puts marks after the last one, until a tracker is the one before the exchange at `at`.
-fn lead_up<'d>(
-    first: &Tracker<'d, SharedSet>,
-    marks: &mut Vec<Mark<'d>>,
-    exchanges: &[Exchange],
-    at: usize,
-    pace: Pace,
-) -> Result<(), AllocError>
-    requires place { at < length exchanges.now }
-    requires marks { AreMarks first.now exchanges.now (at + 1) marks.old.items }
-    ensures marks { OnOk result (AreMarks first.now exchanges.now (at + 1) marks.new.items) }
-    ensures nearest { OnOk result (place_of (last_mark marks.new.items) ≡ at) }
-{
-    loop {
-        let place = last_place(marks);
-        if place == at {
-            return Ok(());
+    /// Puts marks after the last one, until a tracker is the one before the exchange at `at`.
+    fn lead_up<'d>(
+        &self,
+        first: &Tracker<'d, SharedSet>,
+        marks: &mut Vec<Mark<'d>>,
+        exchanges: &[Exchange],
+        at: usize,
+    ) -> Result<(), AllocError>
+        requires place { at < length exchanges.now }
+        requires marks { AreMarks self.now.lasting first.now exchanges.now (at + 1) marks.old.items }
+        ensures marks { OnOk result (AreMarks self.now.lasting first.now exchanges.now (at + 1) marks.new.items) }
+        ensures nearest { OnOk result (place_of (last_mark marks.new.items) ≡ at) }
+    {
+        loop {
+            let place = last_place(marks);
+            if place == at {
+                return Ok(());
+            }
+            let next = place + self.pace.step(at - place);
+            let copy = copy_of_nearest(first, marks)?;
+            marks.push(Mark {
+                place: next,
+                tracker: copy,
+            })?;
+            go_on(marks, &exchanges[place..next], self.lasting)?;
         }
-        let next = place + pace.step(at - place);
-        let copy = copy_of_nearest(first, marks)?;
-        marks.push(Mark {
-            place: next,
-            tracker: copy,
-        })?;
-        go_on(marks, &exchanges[place..next])?;
     }
 }
 
@@ -130,13 +130,13 @@ fn copy_of_nearest<'d>(
 }
 
 /// Takes these exchanges into the last tracker that is marked, where it stands: a tracker is large.
-fn go_on(marks: &mut Vec<Mark>, exchanges: &[Exchange]) -> Result<(), AllocError>
-    ensures { (before : List AMark) (m : AMark) → marks.old.items ≡ before ++ m ∷ [] → OnOk result (LastMarkFollows before m exchanges.now marks.new.items) }
+fn go_on(marks: &mut Vec<Mark>, exchanges: &[Exchange], lasting: Lasting) -> Result<(), AllocError>
+    ensures { (before : List AMark) (m : AMark) → marks.old.items ≡ before ++ m ∷ [] → OnOk result (LastMarkFollows lasting before m exchanges.now marks.new.items) }
 {
     let Some(mark) = marks.last_mut() else {
         return Ok(());
     };
-    mark.tracker.follow(exchanges)
+    mark.tracker.follow_as(exchanges, lasting)
 }
 
 /// Puts the state after an exchange after the others, and answers one that it may come from: one of the last tracker that is

@@ -1,7 +1,7 @@
 //! What a view is handed of a capture, one event after another.
 
 use block9::{Command, Exchange, Reason};
-use deck9::{Knowledge, Profile};
+use deck9::{Going, Knowledge, Profile};
 use report9::{JudgeError, Scope, Stretch, Totals, Verdict, WhyNo};
 
 /// An exchange, as it was seen on the line.
@@ -19,6 +19,10 @@ pub struct SeenExchange<'a> {
     pub before: Option<Knowledge>,
     /// What is known of the deck after it.
     pub after: Knowledge,
+    /// What the deck could do by itself before it: before the first exchange of a part, all that its sheet names.
+    pub going_before: Going,
+    /// What the deck may do by itself after it.
+    pub going: Going,
     /// Whether it lies in the stretch that is shown.
     pub is_shown: bool,
 }

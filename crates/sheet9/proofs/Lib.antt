@@ -1,4 +1,5 @@
 pub mod EmptyLemmas
+pub mod JoinLemmas
 pub mod PartLemmas
 pub mod PrintLemmas
 pub mod ReplyLemmas

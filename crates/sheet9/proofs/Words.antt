@@ -2,7 +2,8 @@
 pub use Rattle.deck9.proofs.Words.{[], arith, Bool, common_steps, drop, every_mode, Exchange, false, HasRun, if◌then◌else◌, index_of, length, List, modes, nat_tests, None}
 pub use Rattle.deck9.proofs.Words.{inl, inr, Option, refl, rules, Some, suc, sym, true, way_of, ℕ, ◌+◌, ◌++◌, ◌/◌, ◌<◌, ◌==◌, ◌↔◌, ◌∙◌, ◌∷◌, ◌≡◌, ◌≤◌, ◌⊎◌}
 pub use Rattle.deck9.specs.declared.mode.Mode.TheVariants.{Stop, the_data as Mode}
-pub use Rattle.sheet9.specs.Passes.{mode_named, own_ways, passes_of, with_names}
+pub use Rattle.sheet9.specs.Modes.{mode_named, with_names}
+pub use Rattle.sheet9.specs.Passes.{own_ways, passes_of}
 pub use Rattle.sheet9.specs.Refusal.{line_after}
 pub use Rattle.sheet9.specs.Sheet.{IsDeckOf, Sheet, unknown_key}
 pub use Rattle.capture9.specs.Shown.{is_printable}

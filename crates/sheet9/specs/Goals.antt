@@ -1,31 +1,25 @@
 -- The table `[goals]`: to which modes some commands may lead that are not listed.
-use Rattle.std.specs.Prelude.{ℕ, ◌==◌, Bool, true, false, if◌then◌else◌, List, [], Option, Some, None, Result, Ok, Err}
-use Rattle.toml.specs.Data.{Data, Items, no_items, Members, no_members, member, as_array, as_table}
-use Rattle.block9.specs.Command.{group_of, is_listed_head}
+use Rattle.std.specs.Prelude.{ℕ, Bool, true, false, if◌then◌else◌, List, [], Option, Some, None, Result, Ok, Err}
+use Rattle.toml.specs.Data.{Data, Members, no_members, member, as_array, as_table}
+use Rattle.block9.specs.Command.{is_listed_head}
 use Rattle.deck9.specs.declared.deck.Forgotten.{Forgotten}
 use Rattle.deck9.specs.declared.deck.Forgotten.TheVariants.{Nothing, Registers}
 use Rattle.deck9.specs.declared.mode_set.ModeSet.{ModeSet}
-use Rattle.deck9.specs.ModeSet.{modes}
 use Rattle.sheet9.specs.declared.refusal.EntryFault.{EntryFault}
-use Rattle.sheet9.specs.declared.refusal.EntryFault.TheVariants.{EmptyModes, ForgetsMore, HasEffect, NoModes, NotOfTransport}
+use Rattle.sheet9.specs.declared.refusal.EntryFault.TheVariants.{ForgetsMore, HasEffect, NotOfTransport}
 use Rattle.sheet9.specs.declared.refusal.TableName.TheVariants.{Goals}
 use Rattle.sheet9.specs.Entries.{CommandTable, command_in, with_entry}
-use Rattle.sheet9.specs.Passes.{with_names}
+use Rattle.sheet9.specs.Head.{is_transport}
+use Rattle.sheet9.specs.Modes.{modes_in}
 use Rattle.sheet9.specs.Refusal.{Fault, NoTable, Entry, and_then}
 
 -- a listed command leads where the rules say, and only one of group 2 may lead to a mode
 abbrev pub unfit_goal : ℕ → Option EntryFault
-unfit_goal head = if is_listed_head head then Some HasEffect else (if group_of head == 2 then None else Some NotOfTransport)
-
--- the modes that a value lists: one at least
-abbrev pub modes_in : List ℕ → Option Items → Result ModeSet Fault
-modes_in key None = Err (Entry Goals key NoModes)
-modes_in key (Some no_items) = Err (Entry Goals key EmptyModes)
-modes_in key (Some names) = with_names Goals key (modes 0) names
+unfit_goal head = if is_listed_head head then Some HasEffect else (if is_transport head then None else Some NotOfTransport)
 
 -- what an entry says by itself
 abbrev pub goals_table : CommandTable ModeSet
-goals_table = record { name = Goals; unfit = unfit_goal; value_of = λ key value. modes_in key (as_array value) }
+goals_table = record { name = Goals; unfit = unfit_goal; value_of = λ key value. modes_in Goals key (as_array value) }
 
 -- such a command forgets nothing else but the registers
 abbrev pub goes_with : Option Forgotten → Bool
@@ -44,7 +38,7 @@ abbrev pub goals_of : (ℕ → Option Forgotten) → List (ℕ × ModeSet) → M
 goals_of forgotten said no_members = Ok said
 goals_of forgotten said (member key value rest) =
     and_then (command_in goals_table key)
-    (λ head. and_then (modes_in key (as_array value))
+    (λ head. and_then (modes_in Goals key (as_array value))
     (λ read. and_then (unless_more key (forgotten head) read)
     (λ goals. and_then (with_entry Goals key said head goals) (λ more. goals_of forgotten more rest))))
 

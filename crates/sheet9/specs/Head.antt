@@ -1,4 +1,4 @@
--- The command that a key names, with a selector or without, and which blocks are no commands.
+-- The command that a key names, with a selector or without; which blocks are no commands, and which control the transport.
 use Rattle.std.specs.Prelude.{ℕ, ◌+◌, ◌*◌, ◌==◌, ◌||◌, if◌then◌else◌, Bool, List, [], ◌∷◌, length, Option, Some, None}
 use Rattle.capture9.specs.Fields.{byte_in}
 use Rattle.block9.specs.Command.{group_of}
@@ -31,3 +31,7 @@ head_or_selector key = if length key == 8 then selector_named key else head_name
 -- blocks of groups 1 and 7 are a deck's replies
 abbrev pub is_reply : ℕ → Bool
 is_reply head = group_of head == 1 || group_of head == 7
+
+-- group 2 is transport control
+abbrev pub is_transport : ℕ → Bool
+is_transport head = group_of head == 2

@@ -1,11 +1,15 @@
+pub mod Acts
 pub mod Entries
 pub mod Forgets
 pub mod Goals
 pub mod Head
+pub mod Loses
+pub mod Modes
 pub mod Names
 pub mod Passes
 pub mod Refusal
 pub mod Replies
+pub mod Runs
 pub mod Sheet
 pub mod Text
 pub mod Working

@@ -1,32 +1,14 @@
 -- What the table [passes] says: which modes a deck may also show on the way to a goal.
-use Rattle.std.specs.Prelude.{ℕ, List, Option, Some, None, Result, Ok, Err, find, map, ok_or, slice_set}
-use Rattle.std.specs.Str.{bytes_eq}
-use Rattle.toml.specs.Data.{Data, Items, no_items, item, Members, no_members, member, as_str, as_array, as_table}
+use Rattle.std.specs.Prelude.{ℕ, List, Option, Some, None, Result, Ok, Err, map, ok_or, slice_set}
+use Rattle.toml.specs.Data.{Data, Items, Members, no_members, member, as_array, as_table}
 use Rattle.deck9.specs.declared.mode.Mode.{Mode}
 use Rattle.deck9.specs.declared.mode_set.ModeSet.{ModeSet}
-use Rattle.deck9.specs.Mode.{every_mode, index_of, name_of}
+use Rattle.deck9.specs.Mode.{every_mode, index_of}
 use Rattle.deck9.specs.ModeCalls.{way}
-use Rattle.deck9.specs.ModeSet.{bit_of, either, modes}
 use Rattle.sheet9.specs.declared.refusal.EntryFault.TheVariants.{NoGoal, NoModes}
-use Rattle.sheet9.specs.declared.refusal.ItemFault.TheVariants.{NoMode}
-use Rattle.sheet9.specs.declared.refusal.TableName.{TableName}
 use Rattle.sheet9.specs.declared.refusal.TableName.TheVariants.{Passes}
-use Rattle.sheet9.specs.Refusal.{Fault, NoTable, Entry, Item, and_then}
-
--- the mode with this name
-abbrev pub mode_named : List ℕ → Option Mode
-mode_named name = find (λ m. bytes_eq name (name_of m)) every_mode
-
--- the mode that an item of a list names, under a key of a table; the item is given as a text, where it is one
-abbrev pub mode_in : TableName → List ℕ → Option (List ℕ) → Result Mode Fault
-mode_in table key None = Err (Entry table key NoModes)
-mode_in table key (Some name) = ok_or (mode_named name) (Item table key name NoMode)
-
--- a set with the modes that a list names; or what is wrong with the first item that is wrong
-abbrev pub with_names : TableName → List ℕ → ModeSet → Items → Result ModeSet Fault
-with_names table key set no_items = Ok set
-with_names table key set (item value rest) =
-    and_then (mode_in table key (as_str value)) (λ mode. with_names table key (either set (modes (bit_of mode))) rest)
+use Rattle.sheet9.specs.Modes.{mode_named, with_names}
+use Rattle.sheet9.specs.Refusal.{Fault, NoTable, Entry, and_then}
 
 -- the modes on the way to a goal by its entry: those of the profile, and those that the entry's list names
 abbrev pub way_with : List ℕ → Mode → Option Items → Result ModeSet Fault

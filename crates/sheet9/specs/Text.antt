@@ -3,13 +3,13 @@ use Rattle.std.specs.Prelude.{ℕ, List, ◌++◌, codes, flat_map, encode_utf8_
 use Rattle.std.specs.Char.Escape.{escape_ascii}
 use Rattle.std.specs.Fmt.{decimal}
 use Rattle.sheet9.specs.declared.refusal.EntryFault.{EntryFault}
-use Rattle.sheet9.specs.declared.refusal.EntryFault.TheVariants.{NotTwoBytes, Reply, Sense, Listed, HasEffect, NotOfTransport, NoGoal, NotForgotten, NoText, NameCharacter, NameStart, NameLength, NameBlanks, NoModes, EmptyModes, NoReplies, EmptyList, ForgetsMore, NamedTwice}
+use Rattle.sheet9.specs.declared.refusal.EntryFault.TheVariants.{NotTwoBytes, Reply, Sense, Listed, HasEffect, NotOfTransport, BeginsNothing, NoGoal, NotForgotten, NotLost, NoText, NameCharacter, NameStart, NameLength, NameBlanks, NoModes, EmptyModes, NoReplies, EmptyList, ForgetsMore, NamedTwice}
 use Rattle.sheet9.specs.declared.refusal.ItemFault.{ItemFault}
 use Rattle.sheet9.specs.declared.refusal.ItemFault.TheVariants.{NoMode, NoReply, Command}
 use Rattle.sheet9.specs.declared.refusal.Refusal.{Refusal}
 use Rattle.sheet9.specs.declared.refusal.Refusal.TheVariants.{NotToml, UnknownKey, NoTable, Entry, Item}
 use Rattle.sheet9.specs.declared.refusal.TableName.{TableName}
-use Rattle.sheet9.specs.declared.refusal.TableName.TheVariants.{Forgets, Goals, Names, Passes, Replies}
+use Rattle.sheet9.specs.declared.refusal.TableName.TheVariants.{Forgets, Goals, Loses, Names, Passes, Replies, Runs}
 use Rattle.sheet9.specs.declared.refusal.SheetError.{SheetError}
 use Rattle.sheet9.specs.declared.refusal.SheetError.TheVariants as error
 
@@ -25,9 +25,11 @@ quoted text = codes "\"" ++ flat_map escaped text ++ codes "\""
 abbrev pub name_of : TableName → List ℕ
 name_of Forgets = codes "forgets"
 name_of Goals = codes "goals"
+name_of Loses = codes "loses"
 name_of Names = codes "names"
 name_of Passes = codes "passes"
 name_of Replies = codes "replies"
+name_of Runs = codes "runs"
 
 -- a text is no name of a mode
 abbrev pub no_mode : List ℕ
@@ -41,8 +43,10 @@ words_of Sense = codes "a listed sense request: it changes nothing"
 words_of Listed = codes "a listed command: it has its name"
 words_of HasEffect = codes "a listed command: the rules say where it leads"
 words_of NotOfTransport = codes "a command of another group than 2 leads to no mode"
+words_of BeginsNothing = codes "a command of another group than 2 begins nothing"
 words_of NoGoal = no_mode
 words_of NotForgotten = codes "not \"nothing\", \"motion\", \"registers\", \"tape\" or \"everything\""
+words_of NotLost = codes "not \"points\" or \"registers\""
 words_of NoText = codes "not a text, as \"FULL EE ON\""
 words_of NameCharacter = codes "a name has only A to Z, 0 to 9, blanks, +, - and /"
 words_of NameStart = codes "a name begins with a letter"
@@ -64,7 +68,8 @@ words_of_item Command = codes "no reply: groups 0, 2, 4 and 6 are a controller's
 -- the text of a refusal
 abbrev pub text_of : Refusal → List ℕ
 text_of (NotToml line) = codes "line " ++ decimal line ++ codes ": not TOML"
-text_of (UnknownKey key) = quoted (string_bytes key) ++ codes ": unknown key: only [forgets], [goals], [names], [passes] and [replies] are read"
+text_of (UnknownKey key) =
+    quoted (string_bytes key) ++ codes ": unknown key: only [forgets], [goals], [loses], [names], [passes], [replies] and [runs] are read"
 text_of (NoTable table) = codes "\"" ++ name_of table ++ codes "\": not a table"
 text_of (Entry table key fault) = codes "[" ++ name_of table ++ codes "] " ++ quoted (string_bytes key) ++ codes ": " ++ words_of fault
 text_of (Item table key item fault) =

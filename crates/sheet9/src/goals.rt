@@ -2,12 +2,13 @@
 ghost use Rattle.std.specs.Prelude.{◌≡◌, IfOk, IfErr, [], option_map};
 ghost use Rattle.std.specs.BTreeMap.{get};
 ghost use Rattle.std.specs.Ordering.{nat_cmp};
-ghost use Rattle.toml.specs.View.{items_view, table_view, view};
+ghost use Rattle.toml.specs.View.{table_view, view};
 ghost use Rattle.sheet9.specs.Goals.{goals_in, goals_of, goes_with};
 ghost use Rattle.sheet9.specs.Working.{HasSaid, ReportsWithoutLine};
 
 use crate::entries::{EntryValue, command_in};
-use crate::passes::with_names;
+use crate::head::is_transport;
+use crate::modes::modes_in;
 use crate::refusal::{EntryFault, Refusal, SheetError, TableName};
 use block9::Command;
 use deck9::{Forgotten, ModeSet};
@@ -32,7 +33,7 @@ impl EntryValue for ModeSet {
     fn unfit(head: u32) -> Option<EntryFault> {
         if Command::is_listed_head(head) {
             Some(EntryFault::HasEffect)
-        } else if head / 0x10_00 == 2 {
+        } else if is_transport(head) {
             None
         } else {
             Some(EntryFault::NotOfTransport)
@@ -40,13 +41,7 @@ impl EntryValue for ModeSet {
     }
 
     fn read(alloc: Global, key: &str, value: &Value) -> Result<ModeSet, SheetError> {
-        let Some(names) = value.as_array() else {
-            return Err(SheetError::of_entry(alloc, TableName::Goals, key, EntryFault::NoModes));
-        };
-        match names.as_slice() {
-            [] => Err(SheetError::of_entry(alloc, TableName::Goals, key, EntryFault::EmptyModes)),
-            _ => with_names(alloc, TableName::Goals, key, ModeSet::NONE, names),
-        }
+        modes_in(alloc, TableName::Goals, key, value)
     }
 }
 

@@ -1,8 +1,8 @@
 //! The command that a key names, by the first two bytes of its block as one number: its head. Or CURRENT TIME SENSE with a selector,
-//! by the first three. And hexadecimal digits.
+//! by the first three. Of what kind it is, and hexadecimal digits.
 ghost use Rattle.std.specs.Prelude.{◌≡◌, [], ◌∷◌};
 ghost use Rattle.capture9.specs.Fields.{byte_in, hex_digit_of};
-ghost use Rattle.sheet9.specs.Head.{head_named, head_or_selector, is_reply, selector_named};
+ghost use Rattle.sheet9.specs.Head.{head_named, head_or_selector, is_reply, is_transport, selector_named};
 
 use block9::{TIME_SENSE, time_sense_with};
 
@@ -59,4 +59,11 @@ pub(crate) fn is_reply(head: u32) -> bool
     ensures { result ≡ is_reply head }
 {
     matches!(head / 0x10_00, 1 | 7)
+}
+
+/// Whether the head is of group 2: transport control.
+pub(crate) fn is_transport(head: u32) -> bool
+    ensures { result ≡ is_transport head }
+{
+    head / 0x10_00 == 2
 }

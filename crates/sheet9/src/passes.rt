@@ -1,14 +1,14 @@
 //! The table `[passes]`.
 ghost use Rattle.std.specs.Prelude.{◌≡◌, IfOk, IfErr, Ok, option_map};
-ghost use Rattle.toml.specs.Data.{as_array, as_str};
-ghost use Rattle.toml.specs.View.{array_view, table_view, view};
-ghost use Rattle.sheet9.specs.Passes.{mode_named, own_ways, passes_in, passes_of, way_with, with_names};
+ghost use Rattle.toml.specs.Data.{as_array};
+ghost use Rattle.toml.specs.View.{table_view, view};
+ghost use Rattle.sheet9.specs.Passes.{own_ways, passes_in, passes_of, way_with};
 ghost use Rattle.sheet9.specs.Working.{ReportsWithoutLine};
 
-use crate::refusal::{EntryFault, ItemFault, Refusal, SheetError, TableName};
+use crate::modes::{mode_named, with_names};
+use crate::refusal::{EntryFault, Refusal, SheetError, TableName};
 use deck9::{Mode, ModeSet};
 use std::alloc::Global;
-use toml::value::Array;
 use toml::{Table, Value};
 
 /// What the value of the key `passes` says, where the key is there: the modes on the way to each goal.
@@ -67,40 +67,4 @@ fn read_way(alloc: Global, key: &str, goal: Mode, value: &Value) -> Result<ModeS
         }
         None => Err(SheetError::of_entry(alloc, TableName::Passes, key, EntryFault::NoModes)),
     }
-}
-
-/// A set with the modes that a list names, under a key of a table.
-pub(crate) fn with_names(
-    alloc: Global,
-    table: TableName,
-    key: &str,
-    set: ModeSet,
-    names: &Array,
-) -> Result<ModeSet, SheetError>
-    ensures ok { IfOk result (λ modes. with_names table key.now set (array_view names.now) ≡ Ok modes) }
-    ensures err { IfErr result (ReportsWithoutLine (with_names table key.now set (array_view names.now))) }
-{
-    let mut modes = set;
-    'names: for value in names {
-        let Some(name) = value.as_str() else {
-            return Err(SheetError::of_entry(alloc, table, key, EntryFault::NoModes));
-        };
-        let Some(mode) = mode_named(name) else {
-            return Err(SheetError::of_item(alloc, table, key, name, ItemFault::NoMode));
-        };
-        modes = modes.or(ModeSet::just(mode));
-    }
-    Ok(modes)
-}
-
-/// The mode with this name.
-fn mode_named(name: &str) -> Option<Mode>
-    ensures { result ≡ mode_named name.now }
-{
-    for mode in &Mode::ALL {
-        if name == mode.name() {
-            return Some(*mode);
-        }
-    }
-    None
 }

@@ -63,12 +63,16 @@ pub enum TableName {
     Forgets,
     /// To which modes some commands may lead that are not listed.
     Goals,
+    /// Which registers a deck may clear by itself after some commands.
+    Loses,
     /// What some commands are called.
     Names,
     /// Which modes a deck may show on the way to a goal.
     Passes,
     /// Which replies some commands take.
     Replies,
+    /// Which modes a deck may show by itself after some commands.
+    Runs,
 }
 
 /// What is wrong with an entry: the first that holds, in this order.
@@ -86,10 +90,14 @@ pub enum EntryFault {
     HasEffect,
     /// The key of `[goals]` names a command of another group than 2.
     NotOfTransport,
+    /// The key of `[loses]` or `[runs]` names a command of another group than 2.
+    BeginsNothing,
     /// The key of `[passes]` is no name of a mode.
     NoGoal,
     /// The value is none of the five words for what is forgotten.
     NotForgotten,
+    /// The value is neither of the two words for what is lost.
+    NotLost,
     /// The value is no text, where a name is wanted.
     NoText,
     /// The name has another character than capital letters, digits, blanks, `+`, `-` and `/`.

@@ -6,6 +6,7 @@ ghost use Rattle.sheet9.specs.Refusal.{NamesFaultLine, Reports, line_after};
 ghost use Rattle.sheet9.specs.Sheet.{IsDeckOf, document_of, meaning_of, sheet_of, unknown_key};
 ghost use Rattle.sheet9.specs.Working.{ReportsWithoutLine};
 
+use crate::acts::joined;
 use crate::effects::read_effects;
 use crate::entries::read_table;
 use crate::passes::read_passes;
@@ -18,10 +19,10 @@ use toml::{Table, Value};
 /// Reads the text of a sheet: the deck that does what it says.
 ///
 /// An error is `Refused` where the text is not a sheet, and says what is wrong first: that it is not TOML (or not UTF-8), then
-/// an unknown key at the top, then what is wrong with `[forgets]`, then with `[goals]`, `[names]`, `[passes]` and `[replies]`. The line of
-/// `NotToml` is that of the first byte that is not UTF-8, where there is one. Else it is the line that the toml library names:
-/// that the text has such a line is proved, and that it is the line of the fault is only tested. The error is `OutOfMemory` where
-/// a growth of memory was refused, which says nothing of the text.
+/// an unknown key at the top, then what is wrong with `[forgets]`, then with `[goals]`, `[loses]`, `[names]`, `[passes]`, `[replies]`
+/// and `[runs]`. The line of `NotToml` is that of the first byte that is not UTF-8, where there is one. Else it is the line that the
+/// toml library names: that the text has such a line is proved, and that it is the line of the fault is only tested. The error is
+/// `OutOfMemory` where a growth of memory was refused, which says nothing of the text.
 pub fn read_sheet(alloc: Global, text: &[u8]) -> Result<Deck, SheetError>
     ensures deck { IfOk result (λ deck. IsOkAnd (sheet_of text.now) (λ sheet. IsDeckOf sheet deck)) }
     ensures refused { IfErr result (Reports (sheet_of text.now)) }
@@ -38,13 +39,16 @@ fn read_tables(alloc: Global, top: &Table) -> Result<Deck, SheetError>
 {
     check_keys(alloc, top)?;
     let effects = read_effects(alloc, value_at(top, "forgets"), value_at(top, "goals"))?;
+    let losses = read_table(alloc, value_at(top, "loses"))?;
     let names = read_table(alloc, value_at(top, "names"))?;
     let ways = read_passes(alloc, value_at(top, "passes"))?;
     let replies = read_table(alloc, value_at(top, "replies"))?;
+    let runs = read_table(alloc, value_at(top, "runs"))?;
     Ok(Deck {
         forgets: effects.alone,
         goals: effects.goals,
         also_forgets: effects.beside,
+        acts: joined(alloc, runs, losses)?,
         ways,
         names,
         replies,
@@ -111,7 +115,7 @@ fn check_keys(alloc: Global, top: &Table) -> Result<(), SheetError>
 {
     'keys: for (key, _value) in top.iter() {
         match key.as_str() {
-            "forgets" | "goals" | "names" | "passes" | "replies" => {}
+            "forgets" | "goals" | "loses" | "names" | "passes" | "replies" | "runs" => {}
             unknown => {
                 let key = String::from_str(alloc, unknown)?;
                 return Err(SheetError::Refused(Refusal::UnknownKey { key }));

@@ -36,7 +36,7 @@ impl fmt::Display for Refusal {
                 let key = Quoted(key.as_str());
                 write!(
                     f,
-                    "{key}: unknown key: only [forgets], [goals], [names], [passes] and [replies] are read"
+                    "{key}: unknown key: only [forgets], [goals], [loses], [names], [passes], [replies] and [runs] are read"
                 )
             }
             Refusal::NoTable { table } => {
@@ -68,9 +68,11 @@ fn name_of<'a>(table: TableName) -> &'a str
     match table {
         TableName::Forgets => "forgets",
         TableName::Goals => "goals",
+        TableName::Loses => "loses",
         TableName::Names => "names",
         TableName::Passes => "passes",
         TableName::Replies => "replies",
+        TableName::Runs => "runs",
     }
 }
 
@@ -88,9 +90,11 @@ fn words_of<'a>(fault: EntryFault) -> &'a str
         EntryFault::Listed => "a listed command: it has its name",
         EntryFault::HasEffect => "a listed command: the rules say where it leads",
         EntryFault::NotOfTransport => "a command of another group than 2 leads to no mode",
+        EntryFault::BeginsNothing => "a command of another group than 2 begins nothing",
         EntryFault::NoGoal => NO_MODE,
         EntryFault::NotForgotten =>
             "not \"nothing\", \"motion\", \"registers\", \"tape\" or \"everything\"",
+        EntryFault::NotLost => "not \"points\" or \"registers\"",
         EntryFault::NoText => "not a text, as \"FULL EE ON\"",
         EntryFault::NameCharacter => "a name has only A to Z, 0 to 9, blanks, +, - and /",
         EntryFault::NameStart => "a name begins with a letter",

@@ -6,12 +6,31 @@ ghost use Rattle.judge9.specs.declared.event.Event.TheVariants as AnEvent;
 
 use block9::Reason;
 use capture9::LineByte;
-use deck9::Knowledge;
+use deck9::{Going, Knowledge, Profile};
 use judge9::{Event, Judging, Kept};
 use report9::{Extent, JudgeError, Stretch};
 use seen9::{Ending, ExplainedView, SeenBreak, SeenExchange, View, ViewOf};
 use std::alloc::Global;
 use std::io::Read;
+
+/// What is to be said of the deck between two exchanges.
+#[derive(Clone, Copy)]
+struct Between {
+    /// What is known of it; none where nothing is.
+    known: Option<Knowledge>,
+    /// What it may do by itself.
+    going: Going,
+}
+
+impl Between {
+    /// Before the first exchange of a part: nothing is known, and all that the sheet names may be going on.
+    fn before_a_part(profile: &Profile) -> Between {
+        Between {
+            known: None,
+            going: profile.deck_ref().on_at_first(),
+        }
+    }
+}
 
 /// Judges the capture that the reader gives, and shows the view what it comes to: how it ends. The records are read once, and none is
 /// kept. Errors are those of the judging, and the view's own; after one the view is told of nothing more.
@@ -22,7 +41,7 @@ pub fn show<R: Read + Drop, V: View>(
     of: ViewOf<'_>,
 ) -> Result<Ending, JudgeError> {
     let mut judging = Judging::new(alloc, reader, of.scope, of.profile)?;
-    let shown = show_events(&mut judging, view, of.stretch);
+    let shown = show_events(&mut judging, view, of);
     let ending = ending_of(&judging, of.scope.extent);
     drop(judging);
     shown?;
@@ -34,15 +53,15 @@ pub fn show<R: Read + Drop, V: View>(
 fn show_events<R: Read + Drop, V: View>(
     judging: &mut Judging<R>,
     view: &mut V,
-    stretch: Stretch,
+    of: ViewOf<'_>,
 ) -> Result<(), JudgeError>
     requires { CanGoOn judging.old.stage judging.old.feed }
 {
-    let mut known = None;
+    let mut between = Between::before_a_part(of.profile);
     'events: loop {
         match judging.next()? {
             Event::End => return Ok(()),
-            event => known = show_event(judging, view, stretch, event, known)?,
+            event => between = show_event(judging, view, of, event, between)?,
         }
     }
 }
@@ -56,7 +75,7 @@ pub fn show_explained<R: Read + Drop, V: ExplainedView>(
     of: ViewOf<'_>,
 ) -> Result<Ending, JudgeError> {
     let mut judging = Judging::new(alloc, reader, of.scope, of.profile)?;
-    let shown = explain_events(alloc, &mut judging, view, of.stretch);
+    let shown = explain_events(alloc, &mut judging, view, of);
     let ending = ending_of(&judging, of.scope.extent);
     drop(judging);
     shown?;
@@ -69,22 +88,22 @@ fn explain_events<R: Read + Drop, V: ExplainedView>(
     alloc: Global,
     judging: &mut Judging<R>,
     view: &mut V,
-    stretch: Stretch,
+    of: ViewOf<'_>,
 ) -> Result<(), JudgeError>
     requires stands { Stands judging.old.scope judging.old.profile.now judging.old.feed.rows.rows nothing_told judging.old }
     requires ready { CanGoOn judging.old.stage judging.old.feed }
 {
     let mut kept = Kept::new(alloc);
-    let mut known = None;
+    let mut between = Between::before_a_part(of.profile);
     'events: loop {
         match judging.next()? {
             Event::End => break,
             event => {
                 let why = kept.follow(alloc, judging, event)?;
                 if let Some(why) = why {
-                    view.why(why, is_shown(event, stretch))?;
+                    view.why(why, is_shown(event, of.stretch))?;
                 }
-                known = show_event(judging, view, stretch, event, known)?;
+                between = show_event(judging, view, of, event, between)?;
             }
         }
     }
@@ -100,38 +119,41 @@ fn is_shown(event: Event, stretch: Stretch) -> bool {
     }
 }
 
-/// Shows an event that is not the end: what is known of the deck from here on.
+/// Shows an event that is not the end: what is to be said of the deck from here on.
 fn show_event<R: Read + Drop, V: View>(
     judging: &Judging<R>,
     view: &mut V,
-    stretch: Stretch,
+    of: ViewOf<'_>,
     event: Event,
-    known: Option<Knowledge>,
-) -> Result<Option<Knowledge>, JudgeError>
+    between: Between,
+) -> Result<Between, JudgeError>
     requires { event ≡ AnEvent.Exchange → ShowsExchange judging.now.feed }
 {
     match event {
         Event::Exchange => {
-            let seen = see_exchange(judging, known, stretch);
+            let seen = see_exchange(judging, between, of.stretch);
             view.exchange(&seen)?;
-            Ok(Some(seen.after))
+            Ok(Between {
+                known: Some(seen.after),
+                going: seen.going,
+            })
         }
         Event::LateReply(first) => {
-            view.late(&see_break(judging, first, Reason::LateReply, stretch))?;
-            Ok(known)
+            view.late(&see_break(judging, first, Reason::LateReply, of.stretch))?;
+            Ok(between)
         }
         Event::Break(broken) => {
-            view.broken(&see_break(judging, broken.record, broken.reason, stretch))?;
-            Ok(None)
+            view.broken(&see_break(judging, broken.record, broken.reason, of.stretch))?;
+            Ok(Between::before_a_part(of.profile))
         }
-        Event::End => Ok(known),
+        Event::End => Ok(between),
     }
 }
 
 /// The exchange that the judging came to.
 fn see_exchange<'e, R: Read + Drop>(
     judging: &'e Judging<'_, R>,
-    before: Option<Knowledge>,
+    before: Between,
     stretch: Stretch,
 ) -> SeenExchange<'e>
     requires { ShowsExchange judging.now.feed }
@@ -146,8 +168,10 @@ fn see_exchange<'e, R: Read + Drop>(
         last,
         end_us,
         exchange,
-        before,
+        before: before.known,
         after: judging.knowledge(),
+        going_before: before.going,
+        going: judging.going(),
         is_shown: stretch.has(end_us),
     }
 }

@@ -5,14 +5,14 @@ use Rattle.track9.proofs.Words.{DeckStep, Does, DoesOrIgnores, Drift, Effect, En
 use Rattle.track9.proofs.Words.{HasState, IfNone, IfSome, InHalves, InPart, Is, IsEntry, IsIgnored, IsPattern, IsState, KeepsPanel, LeadsTo, List}
 use Rattle.track9.proofs.Words.{Mode, ModeSet, Next, None, Option, PairRunsTo, Part, Pattern, Possible, Prev, Profile, Rate, Recall, RegAudioIn}
 use Rattle.track9.proofs.Words.{RegAudioOut, RegIn, RegOut, Register, Reset, RunsTo, Sense, SetAt, SetSomewhere, Shows, Some, State, States, Stop}
-use Rattle.track9.proofs.Words.{all_has, all_shown, and-false, and_from, and_parts, any_goal, any_panel, ap, arith, both, cond_both, day, done}
+use Rattle.track9.proofs.Words.{all_has, all_shown, and_from, and_parts, any_goal, any_panel, ap, arith, both, cond_both, day, done}
 use Rattle.track9.proofs.Words.{drift_from_pairs, drifted, drifted_with, effect_of, entries_of, entry_before, entry_of, false, false≢true}
 use Rattle.track9.proofs.Words.{forgotten_before, forgotten_with, goals_of, halves_of, hands_of, has, has-and, has_pair, head_of, if◌then◌else◌}
 use Rattle.track9.proofs.Words.{ignored, in_local, inl, inr, is_as_wanted, is_mode, is_mode-same, is_nak, is_own, is_some, just_mode, just_state}
 use Rattle.track9.proofs.Words.{masked, mode_just, mode_some, moved_entry, nat_lt, nat_tests, next_frame, no_entries, no_states, on_halves, option_map}
 use Rattle.track9.proofs.Words.{panel_before, panel_switched, pattern_before, prev_frame, profile_of, states_rate, refl, refused, remains_with_panel_on}
 use Rattle.track9.proofs.Words.{rules, sense_of, shown_with, some_entry, some_mode, some_pair, subst, sym, true, true_from_ne_false}
-use Rattle.track9.proofs.Words.{wanted_before, wanted_of, way, way_of, with_entry, with_wanted, ◌<◌, ◌||◌, ◌↔◌, ◌∙◌, ◌≡◌, ◌⊎◌}
+use Rattle.track9.proofs.Words.{wanted_before, wanted_of, way, with_entry, with_wanted, ◌<◌, ◌&&◌, ◌||◌, ◌↔◌, ◌∙◌, ◌≡◌, ◌⊎◌}
 use Rattle.deck9.specs.declared.deck.Forgotten.TheVariants as forgotten
 use Rattle.deck9.specs.declared.effect.Effect.TheVariants as effect
 use Rattle.deck9.specs.declared.sense.Sense.TheVariants as sense
@@ -24,9 +24,14 @@ use Rattle.deck9.specs.Deck.{named_beside, unless_sensed}
 use Rattle.tc25.proofs.DayLemmas.{some_day}
 use Rattle.deck9.proofs.RestLemmas.{step_valid}
 use Rattle.track9.proofs.EffectLemmas.{masked_has}
-use Rattle.track9.proofs.EntryLemmas.{drifted_has, drifted_to, goals_has, goes_from, no_entry, pair_by_goal}
+use Rattle.deck9.specs.declared.going.Going.{Going}
+use Rattle.track9.specs.Working.Acting.{Acted, way_by}
+use Rattle.track9.proofs.Words.{pairs_from_drift, StaysOrLost}
+use Rattle.track9.proofs.EntryLemmas.{way_comes, drifted_has, drifted_to, goals_has, goes_from, no_entry, pair_by_goal}
 use Rattle.track9.proofs.KnownLemmas.{goal_to}
-use Rattle.track9.proofs.PartLemmas.{drift_panel, drift_state, each_register, mechanics, off_drift, possible_state, put, put_each, to_halves, halves_live}
+use Rattle.track9.proofs.PartLemmas.{drift_panel, drift_state, each_register, possible_state, put, put_each, to_halves, halves_live}
+use Rattle.track9.proofs.Words.{or_cases}
+use Rattle.track9.specs.Working.Pattern.{wanted_from}
 
 -- ---- states by their fields
 
@@ -254,40 +259,59 @@ if_none o h f = grind arith
 -- ---- pairs
 
 -- what was reached with no pair of its goal is what a deck shows that has come to a halt
-pub source_halted : (deck : Option Deck) (p : List ModeSet) (g m : Mode) → has (drifted_with deck p g).0 m ≡ true → has (shown_with p g).0 m ≡ false
-    → ((is_some (shown_with p g) ≡ false) ⊎ ((is_mode m g || has (way_of deck g).0 m) ≡ false)) → (g ≡ Stop) × ComesToShow deck Stop m
-source_halted deck p g m h other way = grind (arith, and_parts, is_mode-same, drifted_has, and-false)
+pub source_halted : (acted : Acted) (p : List ModeSet) (g m : Mode) → has (drifted_with acted p g).0 m ≡ true → has (shown_with p g).0 m ≡ false
+    → ((is_some (shown_with p g) ≡ false) ⊎ ((is_mode m g || has (way_by acted g).0 m) ≡ false)) → (g ≡ Stop) × ComesToShow acted.deck acted.on Stop m
+source_halted acted p g m h other way = elim (or_cases _ _ (sym (drifted_has acted p g m) ∙ h)) [
+  | inl kept ↦ absurd (never kept)
+  | inr stop ↦ let w = and_parts _ _ stop in let v = and_parts _ _ w.1 in
+      (is_mode-same g Stop w.0, elim (or_cases _ _ v.1) [ inl e ↦ inl (is_mode-same m Stop e) | inr e ↦ inr (way_comes acted Stop m e) ])
+]
+  where
+    never : (has_pair p g m || (is_some (shown_with p g) && (is_mode m g || has (way_by acted g).0 m))) ≡ true → ⊥
+    never kept = elim (or_cases _ _ kept) [
+      | inl same ↦ false≢true (sym other ∙ same)
+      | inr moved ↦ let w = and_parts _ _ moved in elim way [ inl none ↦ false≢true (sym none ∙ w.0) | inr none ↦ false≢true (sym none ∙ w.1) ]
+    ]
 
 -- the pairs that are wanted among those that are reached
 
-pub reached_parts : (deck : Option Deck) (shown : ModeSet) (p : List ModeSet) (g m : Mode) → has_pair (masked shown (drifted deck p)) g m ≡ true
-    → (has (drifted_with deck p g).0 m ≡ true) × (has shown.0 m ≡ true)
-reached_parts deck shown p g m h =
-    let w = and_parts (has_pair (drifted deck p) g m) (has shown.0 m) (sym (masked_has shown (drifted deck p) g m) ∙ h) in
-    (sym (pair_by_goal (drifted_with deck p) g m) ∙ w.0, w.1)
+pub reached_parts : (acted : Acted) (shown : ModeSet) (p : List ModeSet) (g m : Mode) → has_pair (masked shown (drifted acted p)) g m ≡ true
+    → (has (drifted_with acted p g).0 m ≡ true) × (has shown.0 m ≡ true)
+reached_parts acted shown p g m h =
+    let w = and_parts (has_pair (drifted acted p) g m) (has shown.0 m) (sym (masked_has shown (drifted acted p) g m) ∙ h) in
+    (sym (pair_by_goal (drifted_with acted p) g m) ∙ w.0, w.1)
 
-pub origin_there : (deck : Option Deck) (p : List ModeSet) (goals shown : ModeSet) → ((f n : Mode) × (has_pair p f n ≡ true) × PairRunsTo deck goals shown f n)
-    → is_some (both (goals_of (masked shown (drifted deck p))) goals) ≡ true
-origin_there deck p goals shown (f, n, pair, (g, m, goal, mode, reaches)) =
-    let there = masked_has shown (drifted deck p) g m ∙ and_from _ _ (pair_by_goal (drifted_with deck p) g m ∙ drifted_to deck p f n g m pair reaches) mode in
-    let found = goal_to (masked shown (drifted deck p)) g m there in
-    mode_some (both (goals_of (masked shown (drifted deck p))) goals) g (has-and (goals_of (masked shown (drifted deck p))).0 goals.0 g ∙ and_from _ _ found goal)
+pub origin_there : (acted : Acted) (p : List ModeSet) (goals shown : ModeSet) → ((f n : Mode) × (has_pair p f n ≡ true) × PairRunsTo acted goals shown f n)
+    → is_some (both (goals_of (masked shown (drifted acted p))) goals) ≡ true
+origin_there acted p goals shown (f, n, pair, (g, m, goal, mode, reaches)) =
+    let there = masked_has shown (drifted acted p) g m ∙ and_from _ _ (pair_by_goal (drifted_with acted p) g m ∙ drifted_to acted p f n g m pair reaches) mode in
+    let found = goal_to (masked shown (drifted acted p)) g m there in
+    mode_some (both (goals_of (masked shown (drifted acted p))) goals) g (has-and (goals_of (masked shown (drifted acted p))).0 goals.0 g ∙ and_from _ _ found goal)
 
 -- ---- a part
 
 pub if_none_so : {A P : Type 0} (o : Option A) → P → IfNone o P
 if_none_so o h = grind arith
 
-pub no_entry_runs : (deck : Option Deck) (r : Register) (p : Part) (a : Pattern) (l pn : Bool) → (((e : Entry) × Allows (entries_of r p) e × Is (wanted_of r a) e) → ⊥)
-    → ((s : State) × HasState p l pn s × RunsTo deck a s) → ⊥
-no_entry_runs deck r p a l pn none (s, there, (d, kept, reaches, fits)) =
-    let same = each_register (λ r. entry_of r (record s { goal = d.goal; shown = d.shown }) ≡ entry_of r s) refl refl refl refl r in
-    none (
-      entry_of r s,
-      there.inside.registers r,
-      subst (λ e. Is (wanted_of r a) e) (ap (entry_of r) kept ∙ same)
-          (each_register (λ r. Is (wanted_of r a) (entry_of r d)) fits.ins fits.outs fits.ains fits.aouts r),
-    )
+wanted_before_loss : (on : Going) (r : Register) (w : Option Entry) (e f : Entry) → StaysOrLost on r e f → Is w f → Is (wanted_from on.lost r w) e
+wanted_before_loss on r w e f stays is = grind arith
+
+-- what a register holds after a drift that leads to what is wanted of it
+abbrev pub entry_after : Option Entry → Entry → Entry
+entry_after None e = e
+entry_after (Some f) e = f
+
+pub comes_to_wanted : (on : Going) (r : Register) (w : Option Entry) (e : Entry) → Is (wanted_from on.lost r w) e → StaysOrLost on r e (entry_after w e) × Is w (entry_after w e)
+comes_to_wanted on r w e is = grind arith
+
+pub no_entry_runs : (acted : Acted) (r : Register) (p : Part) (a : Pattern) (l pn : Bool)
+    → (((e : Entry) × Allows (entries_of r p) e × Is (wanted_from acted.on.lost r (wanted_of r a)) e) → ⊥) → ((s : State) × HasState p l pn s × RunsTo acted a s) → ⊥
+no_entry_runs acted r p a l pn none (s, there, (d, kept, reaches, fits)) = none (
+  entry_of r s,
+  there.inside.registers r,
+  wanted_before_loss acted.on r (wanted_of r a) (entry_of r s) (entry_of r d) (kept.registers r)
+      (each_register (λ r. Is (wanted_of r a) (entry_of r d)) fits.ins fits.outs fits.ains fits.aouts r),
+)
 
 -- ---- a set of states
 
@@ -296,19 +320,22 @@ pub panel_hands : (v : States) (s : State) → InPart (in_local (on_halves (stat
 panel_hands v s i = grind arith
 
 -- a hand makes any state with the panel on
-pub hand_leads : (p : Profile) (a : Pattern) (s : State) → p.hands ≡ hands.Allowed → IsPattern p.rate a → Is a.panel true → s.panel ≡ true → LeadsTo p a s
-hand_leads p a s allowed (d, valid, fits) wanted on =
+pub hand_leads : (p : Profile) (on : Going) (a : Pattern) (s : State) → p.hands ≡ hands.Allowed → IsPattern p.rate a → Is a.panel true → s.panel ≡ true → LeadsTo p on a s
+hand_leads p on a s allowed (d, valid, fits) wanted switched =
     let e : State = record d { panel = true } in
     let there : IsState p.rate e = each_register _ (valid RegIn) (valid RegOut) (valid RegAudioIn) (valid RegAudioOut) in
-    (e, drift_from_pairs p s e (inr (allowed, on, refl, there)), search)
+    (e, drift_from_pairs p on s e (inr (allowed, switched, refl, there)), search)
 
-pub no_origin : (p : Profile) (v : States) (a : Pattern) → (Is a.panel true → remains_with_panel_on v ≡ false) → (((s : State) × InHalves false v.off s × RunsTo p.deck a s) → ⊥)
-    → ((s : State) × Possible v s × LeadsTo p a s) → ⊥
-no_origin p v a dead off (s, there, (d, drift, fits)) = by s.panel refl
+pub no_origin : (p : Profile) (on : Going) (v : States) (a : Pattern) → (Is a.panel true → remains_with_panel_on v ≡ false)
+    → (((s : State) × InHalves false v.off s × RunsTo (record { deck = p.deck; on = on }) a s) → ⊥) → ((s : State) × Possible v s × LeadsTo p on a s) → ⊥
+no_origin p on v a dead off (s, there, (d, drift, fits)) = by s.panel refl
   where
     by : (pn : Bool) → s.panel ≡ pn → ⊥
-    by true e = false≢true (sym (dead (subst (Is a.panel) (drift_panel p s d drift ∙ e) fits.panel)) ∙ halves_live (halves_of v true) s (to_halves v s true e there).1)
-    by false e = let m = mechanics p.deck p.rate s d (off_drift p s d e drift) in off (s, to_halves v s false e there, (d, m.0, m.1, fits))
+    by true e = false≢true (sym (dead (subst (Is a.panel) (drift_panel p on s d drift ∙ e) fits.panel)) ∙ halves_live (halves_of v true) s (to_halves v s true e there).1)
+    by false e = elim (pairs_from_drift p on s d drift) [
+      | inl w ↦ off (s, to_halves v s false e there, (d, w.0, w.1, fits))
+      | inr w ↦ false≢true (sym e ∙ w.1)
+    ]
 
 -- ---- steps
 
@@ -319,38 +346,38 @@ shows_same deck p c reply d t does = grind arith
 -- ---- complete exchanges
 
 -- an exchange leads from states of the day to such states
-pub goes_state : (p : Profile) (e : Exchange) (s t : State) → IsState p.rate s → Goes p e s t → IsState p.rate t
-goes_state p e s t valid (u, (d, drift, step), forgets) =
-    does_valid p (effect.Forget (forgotten_with p.deck e)) u t (step_valid p e d u (drift_state p s d valid drift) step) forgets
+pub goes_state : (p : Profile) (on : Going) (e : Exchange) (s t : State) → IsState p.rate s → Goes p on e s t → IsState p.rate t
+goes_state p on e s t valid (u, (d, drift, step), forgets) =
+    does_valid p (effect.Forget (forgotten_with p.deck e)) u t (step_valid p e d u (drift_state p on s d valid drift) step) forgets
 
 -- a drift leads from the state to one of a pattern, if there is a pattern
-abbrev pub LeadsSome : Profile → Option Pattern → State → Type 0
-LeadsSome p o s = (d : State) × Drift p s d × FitsSome o d
+abbrev pub LeadsSome : Profile → Going → Option Pattern → State → Type 0
+LeadsSome p on o s = (d : State) × Drift p on s d × FitsSome o d
 
 -- the command was ignored, or had its effect
-comes_exactly : (p : Profile) (c : Command) (a : Pattern) (s : State) → IsPattern p.rate a → IsState p.rate s
-    → ComesTo p c a s ↔ ((IsIgnored c a × LeadsTo p (record a { local = Some true }) s) ⊎ LeadsSome p (pattern_before p.rate p.hands (effect_of p.deck c) a) s)
-comes_exactly p c a s wanted valid = (
+comes_exactly : (p : Profile) (on : Going) (c : Command) (a : Pattern) (s : State) → IsPattern p.rate a → IsState p.rate s
+    → ComesTo p on c a s ↔ ((IsIgnored c a × LeadsTo p on (record a { local = Some true }) s) ⊎ LeadsSome p on (pattern_before p.rate p.hands (effect_of p.deck c) a) s)
+comes_exactly p on c a s wanted valid = (
   λ (d, t, drift, day, does, f). elim does [
-    | inl does ↦ inr (d, drift, (wanted_exactly p (effect_of p.deck c) a d wanted (drift_state p s d valid drift)).1 (t, day, f, does))
+    | inl does ↦ inr (d, drift, (wanted_exactly p (effect_of p.deck c) a d wanted (drift_state p on s d valid drift)).1 (t, day, f, does))
     | inr (may, local, same) ↦ let fits = subst (Fits a) same f in inl ((may, subst (Is a.local) local fits.local), (d, drift, grind arith))
   ],
   λ w. elim w [
-    | inl ((may, is), (d, drift, f)) ↦ (d, d, drift, drift_state p s d valid drift, inr (may, f.local, refl), grind arith)
-    | inr (d, drift, f) ↦ let (t, day, fits, does) = (wanted_exactly p (effect_of p.deck c) a d wanted (drift_state p s d valid drift)).0 f in
+    | inl ((may, is), (d, drift, f)) ↦ (d, d, drift, drift_state p on s d valid drift, inr (may, f.local, refl), grind arith)
+    | inr (d, drift, f) ↦ let (t, day, fits, does) = (wanted_exactly p (effect_of p.deck c) a d wanted (drift_state p on s d valid drift)).0 f in
         (d, t, drift, day, inl does, fits)
   ],
 )
 
-pub step_exactly : {rate : Rate} {h : Hands} {e : Effect} {o : Option Pattern} (deck : Option Deck) (v : States) (c : Command) (a : Pattern)
+pub step_exactly : {rate : Rate} {h : Hands} {e : Effect} {o : Option Pattern} (acted : Acted) (v : States) (c : Command) (a : Pattern)
     → AreWhole (states_rate v) v → AreBelow v → IsPattern (states_rate v) a
-    → rate ≡ states_rate v → h ≡ hands_of v → e ≡ effect_of deck c → o ≡ pattern_before rate h e a → (s : State) → Possible v s
-    → ComesTo (profile_of deck v) c a s ↔ ((IsIgnored c a × LeadsTo (profile_of deck v) (record a { local = Some true }) s) ⊎ LeadsSome (profile_of deck v) o s)
-step_exactly {o = o} deck v c a whole below wanted rate allowed effect is s there =
-    subst (λ o. ComesTo (profile_of deck v) c a s ↔ ((IsIgnored c a × LeadsTo (profile_of deck v) (record a { local = Some true }) s) ⊎ LeadsSome (profile_of deck v) o s))
-    found (comes_exactly (profile_of deck v) c a s wanted (possible_state (states_rate v) v s whole below there))
+    → rate ≡ states_rate v → h ≡ hands_of v → e ≡ effect_of acted.deck c → o ≡ pattern_before rate h e a → (s : State) → Possible v s
+    → ComesTo (profile_of acted.deck v) acted.on c a s ↔ ((IsIgnored c a × LeadsTo (profile_of acted.deck v) acted.on (record a { local = Some true }) s) ⊎ LeadsSome (profile_of acted.deck v) acted.on o s)
+step_exactly {o = o} acted v c a whole below wanted rate allowed effect is s there =
+    subst (λ o. ComesTo (profile_of acted.deck v) acted.on c a s ↔ ((IsIgnored c a × LeadsTo (profile_of acted.deck v) acted.on (record a { local = Some true }) s) ⊎ LeadsSome (profile_of acted.deck v) acted.on o s))
+    found (comes_exactly (profile_of acted.deck v) acted.on c a s wanted (possible_state (states_rate v) v s whole below there))
   where
-    found : pattern_before (states_rate v) (hands_of v) (effect_of deck c) a ≡ o
+    found : pattern_before (states_rate v) (hands_of v) (effect_of acted.deck c) a ≡ o
     found = rw (← rate, ← allowed, ← effect) (sym is)
 
 -- the states from which forgetting leads to this one
@@ -375,8 +402,8 @@ forgets_shows p e u t forgets =
     forgets_agree p (sense_of e.command) (is_own e.command e.reply) (is_nak e.reply) (named_beside p.deck (head_of e.block)) e.reply u t forgets
 
 -- an exchange that got a NAK is a drift
-pub nak_exactly : (p : Profile) (e : Exchange) (s t : State) → is_nak e.reply ≡ true → LeadsTo p (just_state t) s ↔ Goes p e s t
-nak_exactly p e s t nak = (
+pub nak_exactly : (p : Profile) (on : Going) (e : Exchange) (s t : State) → is_nak e.reply ≡ true → LeadsTo p on (just_state t) s ↔ Goes p on e s t
+nak_exactly p on e s t nak = (
   λ (d, drift, fits). (t, (d, drift, refused nak (fits_just t d fits)), rw none refl),
   λ (u, (d, drift, step), forgets). let same : t ≡ u = rw none at forgets in elim step [
     | refused was e ↦ (d, drift, subst (λ t. Fits (just_state t) d) (sym (same ∙ e)) (fits_self d))
@@ -389,29 +416,29 @@ nak_exactly p e s t nak = (
     none = rw nak refl
 
 -- with no NAK the reply agrees with the state after, and forgetting leads there from one that the command led to
-pub goes_exactly : (p : Profile) (e : Exchange) (s t : State) → is_nak e.reply ≡ false → IsState p.rate s → IsState p.rate t
-    → Goes p e s t ↔ (Shows p.rate t e.command e.reply × ComesTo p e.command (forgotten_before p.hands (forgotten_with p.deck e) (just_state t)) s)
-goes_exactly p e s t nak was is = (λ (u, (d, drift, step), forgets). there u d drift step forgets, λ (shows, (d, u, drift, day, does, fits)). back shows d u drift day does fits)
+pub goes_exactly : (p : Profile) (on : Going) (e : Exchange) (s t : State) → is_nak e.reply ≡ false → IsState p.rate s → IsState p.rate t
+    → Goes p on e s t ↔ (Shows p.rate t e.command e.reply × ComesTo p on e.command (forgotten_before p.hands (forgotten_with p.deck e) (just_state t)) s)
+goes_exactly p on e s t nak was is = (λ (u, (d, drift, step), forgets). there u d drift step forgets, λ (shows, (d, u, drift, day, does, fits)). back shows d u drift day does fits)
   where
     g : Forgotten
     g = forgotten_with p.deck e
 
-    there : (u d : State) → Drift p s d → DeckStep p e.command e.reply d u → Forgets p g u t
-        → Shows p.rate t e.command e.reply × ComesTo p e.command (forgotten_before p.hands g (just_state t)) s
+    there : (u d : State) → Drift p on s d → DeckStep p e.command e.reply d u → Forgets p g u t
+        → Shows p.rate t e.command e.reply × ComesTo p on e.command (forgotten_before p.hands g (just_state t)) s
     there u d drift (refused nak_too same) forgets = absurd (false≢true (sym nak ∙ nak_too))
     there u d drift (done not_nak shows does) forgets =
-        let day = does_valid p (effect_of p.deck e.command) d u (drift_state p s d was drift) does in (
+        let day = does_valid p (effect_of p.deck e.command) d u (drift_state p on s d was drift) does in (
           (forgets_shows p e u t forgets).0 ((shows_same p.deck p e.command e.reply d u does).0 shows),
           (d, u, drift, day, inl does, (between_exactly p g u t day is).1 forgets),
         )
     there u d drift (ignored not_nak shows may local same) forgets =
-        let day = subst (IsState p.rate) (sym same) (drift_state p s d was drift) in (
+        let day = subst (IsState p.rate) (sym same) (drift_state p on s d was drift) in (
           (forgets_shows p e u t forgets).0 (rw same shows),
           (d, u, drift, day, inr (may, local, same), (between_exactly p g u t day is).1 forgets),
         )
 
-    back : Shows p.rate t e.command e.reply → (d u : State) → Drift p s d → IsState p.rate u → DoesOrIgnores p e.command d u
-        → Fits (forgotten_before p.hands g (just_state t)) u → Goes p e s t
+    back : Shows p.rate t e.command e.reply → (d u : State) → Drift p on s d → IsState p.rate u → DoesOrIgnores p e.command d u
+        → Fits (forgotten_before p.hands g (just_state t)) u → Goes p on e s t
     back shows d u drift day does fits =
         let forgets = (between_exactly p g u t day is).0 fits in let shown = (forgets_shows p e u t forgets).1 shows in (
           u,

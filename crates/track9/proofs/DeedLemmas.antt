@@ -1,6 +1,7 @@
 -- A deed does what its exchange does, or its command where the reply is not known; and it counts the same presets.
 use Rattle.track9.proofs.Words.{Acts, Agrees, arith, DoesOrStays, entry_of, refused, Sense, AreReached, Block, Bool, CanPass, Command, cond_both, counts_after, Deck, deed_exchanged, deed_passed, deed_showing, DeckStep, Drift, DriftsAndGoes, effect_of}
 use Rattle.track9.proofs.Words.{Exchanges, false, if◌then◌else◌, inl, inr, is_frugal_deed, is_nak, is_own, no_deed, Option, Passes, Presets, presets_after, Profile, Rate, refl, sense_of, shown_by, State, sym, true, with_command, ◌↔◌, ◌∙◌, ◌≡◌, ◌⊎◌}
+use Rattle.deck9.specs.declared.going.Going.{Going}
 use Rattle.deck9.specs.declared.effect.Effect.TheVariants as effect
 use Rattle.deck9.specs.declared.sense.Sense.TheVariants as sense
 use Rattle.track9.specs.Frugal.{is_frugal}
@@ -51,22 +52,22 @@ passed_is : (p : Profile) (c : Command) (s t : State) → Acts (deed_passed p.de
 passed_is p c s t = grind arith
 
 -- states that are reached by one step are reached by another that is the same
-reached_as : (p : Profile) (X Y : State → Type 0) (Goes Other : Profile → State → State → Type 0) → ((s t : State) → Goes p s t ↔ Other p s t)
-    → AreReached X (DriftsAndGoes Goes p) Y → AreReached X (DriftsAndGoes Other p) Y
-reached_as p X Y Goes Other same reached = (
+reached_as : (p : Profile) (on : Going) (X Y : State → Type 0) (Goes Other : Profile → State → State → Type 0) → ((s t : State) → Goes p s t ↔ Other p s t)
+    → AreReached X (DriftsAndGoes Goes p on) Y → AreReached X (DriftsAndGoes Other p on) Y
+reached_as p on X Y Goes Other same reached = (
   λ t i. let w = reached.0 t i in (w.0, w.1, (w.2.0, w.2.1, (same w.2.0 t).0 w.2.2)),
   λ s t i (d, drift, goes). reached.1 s t i (d, drift, (same d t).1 goes),
 )
 
-pub deed_reaches : (p : Profile) (c : Command) (reply : Block) (X Y : State → Type 0) → AreReached X (DriftsAndGoes (Acts (deed_exchanged p.deck p.rate c reply)) p) Y
-    → AreReached X (Exchanges p c reply) Y
-deed_reaches p c reply X Y = reached_as p X Y (Acts (deed_exchanged p.deck p.rate c reply)) (λ p. DeckStep p c reply) (deed_is p c reply)
+pub deed_reaches : (p : Profile) (on : Going) (c : Command) (reply : Block) (X Y : State → Type 0) → AreReached X (DriftsAndGoes (Acts (deed_exchanged p.deck p.rate c reply)) p on) Y
+    → AreReached X (Exchanges p on c reply) Y
+deed_reaches p on c reply X Y = reached_as p on X Y (Acts (deed_exchanged p.deck p.rate c reply)) (λ p. DeckStep p c reply) (deed_is p c reply)
 
-pub passed_reaches : (p : Profile) (c : Command) (X Y : State → Type 0) → AreReached X (DriftsAndGoes (Acts (deed_passed p.deck c)) p) Y → AreReached X (Passes p c) Y
-passed_reaches p c X Y = reached_as p X Y (Acts (deed_passed p.deck c)) (λ p. CanPass p c) (passed_is p c)
+pub passed_reaches : (p : Profile) (on : Going) (c : Command) (X Y : State → Type 0) → AreReached X (DriftsAndGoes (Acts (deed_passed p.deck c)) p on) Y → AreReached X (Passes p on c) Y
+passed_reaches p on c X Y = reached_as p on X Y (Acts (deed_passed p.deck c)) (λ p. CanPass p c) (passed_is p c)
 
-pub nothing_reaches : (p : Profile) (X Y : State → Type 0) → AreReached X (DriftsAndGoes (Acts no_deed) p) Y → AreReached X (Drift p) Y
-nothing_reaches p X Y reached = (
+pub nothing_reaches : (p : Profile) (on : Going) (X Y : State → Type 0) → AreReached X (DriftsAndGoes (Acts no_deed) p on) Y → AreReached X (Drift p on) Y
+nothing_reaches p on X Y reached = (
   λ t i. let w = reached.0 t i in (w.0, w.1, grind (arith, w.2)),
   λ s t i drift. reached.1 s t i (t, drift, inl refl),
 )

@@ -2,22 +2,23 @@
 -- effect, and complete exchanges where nobody touches the panel.
 use Rattle.track9.proofs.Words.{all_has, all_pairs, Deck, Everything, Forgets, Forgotten, halves_forgotten, modes, Motion, motion_forgotten, Nothing, Profile, Registers, registers_forgotten, Tape, IsState, Gives, Deed, Acts, counts_after, DoesOrStays}
 use Rattle.track9.proofs.Words.{agreeing, all_forgotten, all_or_none, all_states, Allows, and_from, and_parts, ap, AreSet, Becomes, Bool}
-use Rattle.track9.proofs.Words.{both, Change, changed_entries, changed_part, cond_both, counted, Does, DoesOrStays, Drift, drift_from_pairs, drifted}
+use Rattle.track9.proofs.Words.{both, Change, changed_entries, changed_part, cond_both, counted, Does, DoesOrStays, Drift, drifted}
 use Rattle.track9.proofs.Words.{drifted_part, drifted_with, Effect, Entries, entries_of, entry_of, false, false≢true, forgotten_part, all_shown, gone}
 use Rattle.track9.proofs.Words.{either, gone_pairs, gone_part, kept_or_gone, kept_or_gone_part, pairs_of, has, has-and, has-or, has_pair, HasEffect, if◌then◌else◌, IfSome, in_local, inl, InPart}
 use Rattle.track9.proofs.Words.{inr, InHalves, is_as_wanted, part_remains, is_mode, is_mode-same, LeadsOn, List, map_halves, masked, masked_part, Mode, mode_self, ModeSet}
 use Rattle.track9.proofs.Words.{no_states, None, Option, or-true, or_cases, Part, Presets, put_settled}
 use Rattle.track9.proofs.Words.{refl, RegAudioIn, RegAudioOut, RegIn, Register, RegistersSet, RegOut, reported_part, sensed_part, set_where, settled}
-use Rattle.track9.proofs.Words.{shown_with, ShowsStatus, Some, some_entry, some_mode, some_pair, halves_remain, State, Status, status_part, subst, sym, Taken, true}
+use Rattle.track9.proofs.Words.{shown_with, ShowsStatus, Some, some_entry, some_mode, some_pair, halves_remain, State, Status, status_part, subst, sym, TakenQuietly, true}
 use Rattle.track9.proofs.Words.{halves_changed, halves_drifted, halves_gone, halves_kept_or_gone, halves_sensed, halves_status, HalvesBelow, HalvesFew, Halves, HalvesWhole, where_remains, Whole, with_entries, with_entry}
 use Rattle.track9.proofs.Words.{Rate, halves_rate, part_rate, untouched, with_pairs, ℕ, ◌&&◌, ◌||◌, ◌↔◌, ◌∙◌, ◌≡◌, ◌⊎◌}
+use Rattle.track9.specs.Working.Acting.{Acted, quiet}
 use Rattle.deck9.specs.declared.effect.Effect.TheVariants as effect
 use Rattle.track9.specs.declared.deed.Deed.TheVariants as deed
 use Rattle.deck9.proofs.EffectLemmas.{does_valid}
 use Rattle.track9.proofs.EntryLemmas.{allowed_some, drifted_from, drifted_to, entry_from, entry_stays, entry_to, goes_from, goes_to, pair_by_goal, pairs_have, pairs_some}
 use Rattle.track9.proofs.EntryLemmas.{set_exactly, some_allowed, gives_exactly}
 use Rattle.track9.proofs.PartLemmas.{a_state, all_exactly, any_entries, Below, drift_below, drift_some, drift_whole, each_register, few_agreeing, few_all_states, state_is}
-use Rattle.track9.proofs.PartLemmas.{few_changed_part, few_counted, few_no_states, few_pairs, few_put, few_set, few_settled, few_halves, FewIn, in_none, in_pairs, mechanics}
+use Rattle.track9.proofs.PartLemmas.{few_changed_part, few_counted, few_no_states, few_pairs, few_put, few_set, few_settled, few_halves, FewIn, in_none, in_pairs, mechanics, mechanics_drift}
 use Rattle.track9.proofs.PartLemmas.{not_live, pairs_registers, put, put_in, read_put, settled_exactly, take_out, halves_live, halves_state, whole_all, whole_drift, whole_in}
 use Rattle.track9.proofs.PartLemmas.{all_drifted_pairs, drifted_all, each_put, of_rate, OfRate, PartBelow, whole_rate, whole_none, whole_pairs, whole_put, whole_settled, whole_halves}
 use Rattle.std.proofs.Common.{arith}
@@ -57,7 +58,7 @@ leads_by rate Goes count keeps f h each = record {
 }
 
 -- a part that has no states stays
-leads : (rate : Rate) (Goes : State → State → Type 0) (count : Presets → Presets) → Keeps Goes → (f : Bool → Part → Part) (h : Halves) → HalvesWhole rate h
+pub leads : (rate : Rate) (Goes : State → State → Type 0) (count : Presets → Presets) → Keeps Goes → (f : Bool → Part → Part) (h : Halves) → HalvesWhole rate h
     → ((l : Bool) (n : Presets) → FewIn n (in_local h l) → FewIn (count n) (in_local h l))
     → ((l : Bool) → part_remains (in_local h l) ≡ true → PartLeads rate Goes count (in_local h l) (λ b. f b (in_local h l)))
     → LeadsOn rate Goes count h (map_halves (λ l. where_remains (f l)) h)
@@ -86,24 +87,24 @@ reads rate P f h whole exactly wholes few = leads rate (λ s t. P s × (t ≡ s)
 
 -- ---- a drift
 
-pub drift_leads : (deck : Option Deck) (rate : Rate) (h : Halves) → HalvesWhole rate h → LeadsOn rate (Drift (untouched deck rate)) (λ n. n) h (halves_drifted deck h)
-drift_leads deck rate h whole = leads_by rate (Drift (untouched deck rate)) (λ n. n) (record { local = λ s t d. rw (mechanics deck rate s t d).0; panel = λ s t d. rw (mechanics deck rate s t d).0 })
-    (λ l. drifted_part deck) h (λ l. let p = in_local h l in record {
+pub drift_leads : (acted : Acted) (rate : Rate) (h : Halves) → HalvesWhole rate h → LeadsOn rate (Drift (untouched acted.deck rate) (quiet acted.on)) (λ n. n) h (halves_drifted acted h)
+drift_leads acted rate h whole = leads_by rate (Drift (untouched acted.deck rate) (quiet acted.on)) (λ n. n) (record { local = λ s t d. rw (mechanics acted rate s t d).0; panel = λ s t d. rw (mechanics acted rate s t d).0 })
+    (λ l. drifted_part acted) h (λ l. let p = in_local h l in record {
       from = λ t i.
-          let w = drifted_from deck p.pairs t.goal t.shown (sym (pair_by_goal (drifted_with deck p.pairs) t.goal t.shown) ∙ i.pair) in
+          let w = drifted_from acted p.pairs t.goal t.shown (sym (pair_by_goal (drifted_with acted p.pairs) t.goal t.shown) ∙ i.pair) in
           let s : State = record t { goal = w.0; shown = w.1 } in (
             s,
-            in_pairs p p.pairs t w.0 w.1 (pairs_registers p (drifted deck p.pairs) t i) w.2,
+            in_pairs p p.pairs t w.0 w.1 (pairs_registers p (drifted acted p.pairs) t i) w.2,
             refl,
             refl,
-            drift_from_pairs (untouched deck rate) s t (inl (refl, w.3)),
+            mechanics_drift acted rate t w.0 w.1 w.3,
           );
-      to = λ s t i d. let m = mechanics deck rate s t d in
-          subst (InPart (drifted_part deck p)) (sym m.0)
-          (in_pairs p (drifted deck p.pairs) s t.goal t.shown i.registers
-          (pair_by_goal (drifted_with deck p.pairs) t.goal t.shown ∙ drifted_to deck p.pairs s.goal s.shown t.goal t.shown i.pair m.1));
-      whole = λ b. whole_drift deck rate p (whole_in rate h whole l);
-      few = λ b n few. few_pairs n (drifted deck p.pairs) p few;
+      to = λ s t i d. let m = mechanics acted rate s t d in
+          subst (InPart (drifted_part acted p)) (sym m.0)
+          (in_pairs p (drifted acted p.pairs) s t.goal t.shown i.registers
+          (pair_by_goal (drifted_with acted p.pairs) t.goal t.shown ∙ drifted_to acted p.pairs s.goal s.shown t.goal t.shown i.pair m.1));
+      whole = λ b. whole_drift acted rate p (whole_in rate h whole l);
+      few = λ b n few. few_pairs n (drifted acted p.pairs) p few;
     })
 
 -- ---- a new goal
@@ -310,25 +311,25 @@ has_effect deck rate m e h by whole below = leads rate (DoesOrStays (untouched d
 pub halves_same : (g h : Halves) → g.remote ≡ h.remote → g.local ≡ h.local → g ≡ h
 halves_same g h p q = ap (λ (r : Part). let k : Halves = record g { remote = r } in k) p ∙ ap (λ (l : Part). let k : Halves = record h { local = l } in k) q
 
-drift_live : (deck : Option Deck) (f : Part → Part) (p : Part) → drifted_part deck (f p) ≡ f (drifted_part deck p) → drifted_part deck (where_remains f p) ≡ where_remains f (drifted_part deck p)
-drift_live deck f p same = rw (drift_some deck p.pairs) (elim (part_remains p) as (λ b. drifted_part deck (if b then f p else p)
-    ≡ (if b then f (drifted_part deck p) else drifted_part deck p)) [ true ↦ same | false ↦ refl ])
+drift_live : (acted : Acted) (f : Part → Part) (p : Part) → drifted_part acted (f p) ≡ f (drifted_part acted p) → drifted_part acted (where_remains f p) ≡ where_remains f (drifted_part acted p)
+drift_live acted f p same = rw (drift_some acted p.pairs) (elim (part_remains p) as (λ b. drifted_part acted (if b then f p else p)
+    ≡ (if b then f (drifted_part acted p) else drifted_part acted p)) [ true ↦ same | false ↦ refl ])
 
-pub drift_halves : (deck : Option Deck) (f : Bool → Part → Part) (h : Halves) → ((l : Bool) (p : Part) → drifted_part deck (f l p) ≡ f l (drifted_part deck p))
-    → halves_drifted deck (map_halves (λ l. where_remains (f l)) h) ≡ map_halves (λ l. where_remains (f l)) (halves_drifted deck h)
-drift_halves deck f h same = grind (arith, halves_same, drift_live)
+pub drift_halves : (acted : Acted) (f : Bool → Part → Part) (h : Halves) → ((l : Bool) (p : Part) → drifted_part acted (f l p) ≡ f l (drifted_part acted p))
+    → halves_drifted acted (map_halves (λ l. where_remains (f l)) h) ≡ map_halves (λ l. where_remains (f l)) (halves_drifted acted h)
+drift_halves acted f h same = grind (arith, halves_same, drift_live)
 
 -- what becomes of a register's entries is the same after a drift
-pub drift_put : (deck : Option Deck) (r : Register) (f : Entries → Entries) (p : Part) → drifted_part deck (with_entries r (f (entries_of r p)) p)
-    ≡ with_entries r (f (entries_of r (drifted_part deck p))) (drifted_part deck p)
-drift_put deck r f p = grind arith
+pub drift_put : (acted : Acted) (r : Register) (f : Entries → Entries) (p : Part) → drifted_part acted (with_entries r (f (entries_of r p)) p)
+    ≡ with_entries r (f (entries_of r (drifted_part acted p))) (drifted_part acted p)
+drift_put acted r f p = grind arith
 
-drift_settled : (deck : Option Deck) (p : Part) → drifted_part deck (settled p) ≡ settled (drifted_part deck p)
-drift_settled deck p = rw (drift_some deck p.pairs) (elim (part_remains p && some_entry p.ins && some_entry p.outs && some_entry p.ains && some_entry p.aouts)
-    as (λ b. drifted_part deck (if b then p else no_states (part_rate p)) ≡ (if b then drifted_part deck p else no_states (part_rate p))) [ true ↦ refl | false ↦ refl ])
+drift_settled : (acted : Acted) (p : Part) → drifted_part acted (settled p) ≡ settled (drifted_part acted p)
+drift_settled acted p = rw (drift_some acted p.pairs) (elim (part_remains p && some_entry p.ins && some_entry p.outs && some_entry p.ains && some_entry p.aouts)
+    as (λ b. drifted_part acted (if b then p else no_states (part_rate p)) ≡ (if b then drifted_part acted p else no_states (part_rate p))) [ true ↦ refl | false ↦ refl ])
 
-drift_kept : (deck : Option Deck) (l : Bool) (p : Part) → drifted_part deck (kept_if l p) ≡ kept_if l (drifted_part deck p)
-drift_kept deck l p = grind (arith, drift_settled)
+drift_kept : (acted : Acted) (l : Bool) (p : Part) → drifted_part acted (kept_if l p) ≡ kept_if l (drifted_part acted p)
+drift_kept acted l p = grind (arith, drift_settled)
 
 -- what is made aside where there is a state, and then put in place
 changed_is : (may_stay : Bool) (r : Register) (c : Change) (h : Halves)
@@ -336,11 +337,11 @@ changed_is : (may_stay : Bool) (r : Register) (c : Change) (h : Halves)
 changed_is may_stay r c h = grind arith
 
 -- what becomes of a register, and then a drift
-pub after_change : (deck : Option Deck) (rate : Rate) (may_stay : Bool) (r : Register) (c : Change) (h : Halves) → HalvesWhole rate h → HalvesBelow h
-    → HasEffect deck rate may_stay (effect.Change r c) (halves_drifted deck h) (halves_drifted deck (halves_changed may_stay r c h))
-after_change deck rate m r c h whole below = subst (HasEffect deck rate m (effect.Change r c) (halves_drifted deck h)) (sym (ap (halves_drifted deck) (changed_is m r c h)
-    ∙ drift_halves deck (part_effect m (effect.Change r c)) h (λ l p. drift_kept deck l (changed_part (l || m) r c p) ∙ ap (kept_if l) (drift_put deck r (changed_entries (l || m) c) p))))
-    (has_effect deck rate m (effect.Change r c) (halves_drifted deck h) refl (drift_whole deck rate h whole) (drift_below deck h below))
+pub after_change : (acted : Acted) (rate : Rate) (may_stay : Bool) (r : Register) (c : Change) (h : Halves) → HalvesWhole rate h → HalvesBelow h
+    → HasEffect acted.deck rate may_stay (effect.Change r c) (halves_drifted acted h) (halves_drifted acted (halves_changed may_stay r c h))
+after_change acted rate m r c h whole below = subst (HasEffect acted.deck rate m (effect.Change r c) (halves_drifted acted h)) (sym (ap (halves_drifted acted) (changed_is m r c h)
+    ∙ drift_halves acted (part_effect m (effect.Change r c)) h (λ l p. drift_kept acted l (changed_part (l || m) r c p) ∙ ap (kept_if l) (drift_put acted r (changed_entries (l || m) c) p))))
+    (has_effect acted.deck rate m (effect.Change r c) (halves_drifted acted h) refl (drift_whole acted rate h whole) (drift_below acted h below))
 
 -- ---- one after another
 
@@ -370,12 +371,12 @@ pub leads_same : (rate : Rate) (h : Halves) → HalvesWhole rate h → LeadsOn r
 leads_same rate h whole = record { reached = λ pn. (λ t i. (t, i, refl), λ s t i e. subst (InHalves pn h) (sym e) i); whole = whole; few = λ n few. few }
 
 -- nothing but a drift
-pub after_drift : (deck : Option Deck) (rate : Rate) (may_stay : Bool) (e : Effect) (h : Halves) → ((s t : State) → (t ≡ s) → Does (untouched deck rate) e s t)
-    → ((s t : State) → Does (untouched deck rate) e s t → t ≡ s)
-    → ((n : Presets) → counted e n ≡ n) → HalvesWhole rate h → HasEffect deck rate may_stay e (halves_drifted deck h) (halves_drifted deck h)
-after_drift deck rate m e h there back same whole = leads_as rate (λ s t. t ≡ s) (DoesOrStays (untouched deck rate) m e) (λ n. n) (counted e) (halves_drifted deck h) (halves_drifted deck h)
+pub after_drift : (acted : Acted) (rate : Rate) (may_stay : Bool) (e : Effect) (h : Halves) → ((s t : State) → (t ≡ s) → Does (untouched acted.deck rate) e s t)
+    → ((s t : State) → Does (untouched acted.deck rate) e s t → t ≡ s)
+    → ((n : Presets) → counted e n ≡ n) → HalvesWhole rate h → HasEffect acted.deck rate may_stay e (halves_drifted acted h) (halves_drifted acted h)
+after_drift acted rate m e h there back same whole = leads_as rate (λ s t. t ≡ s) (DoesOrStays (untouched acted.deck rate) m e) (λ n. n) (counted e) (halves_drifted acted h) (halves_drifted acted h)
     (λ s t e. inl (there s t e)) (λ s t i d. elim d [ inl does ↦ back s t does | inr (stays, e) ↦ e ]) same
-    (leads_same rate (halves_drifted deck h) (drift_whole deck rate h whole))
+    (leads_same rate (halves_drifted acted h) (drift_whole acted rate h whole))
 
 -- ---- what is forgotten
 
@@ -434,36 +435,36 @@ halves_forget deck rate Tape h whole = let p = untouched deck rate in let first 
 halves_forget deck rate Everything h whole = forget_all deck rate h whole
 
 -- it is the same before a drift as after it
-drift_forgotten : (deck : Option Deck) (g : Forgotten) (h : Halves) → halves_drifted deck (halves_forgotten g h) ≡ halves_forgotten g (halves_drifted deck h)
-drift_forgotten deck Nothing h = refl
-drift_forgotten deck Motion h = drift_halves deck (λ l. with_pairs all_pairs) h (λ l p. rw (all_drifted_pairs deck) refl)
-drift_forgotten deck Registers h = drift_halves deck (λ l. forgotten_part) h (λ l p. refl)
-drift_forgotten deck Tape h = drift_halves deck (λ l. with_pairs all_pairs) (registers_forgotten h) (λ l p. rw (all_drifted_pairs deck) refl)
-    ∙ ap motion_forgotten (drift_halves deck (λ l. forgotten_part) h (λ l p. refl))
-drift_forgotten deck Everything h = by (halves_remain h) ∙ ap (λ (b : Bool). if b then all_or_none (halves_rate h) true else halves_drifted deck h) (sym same)
+drift_forgotten : (acted : Acted) (g : Forgotten) (h : Halves) → halves_drifted acted (halves_forgotten g h) ≡ halves_forgotten g (halves_drifted acted h)
+drift_forgotten acted Nothing h = refl
+drift_forgotten acted Motion h = drift_halves acted (λ l. with_pairs all_pairs) h (λ l p. rw (all_drifted_pairs acted) refl)
+drift_forgotten acted Registers h = drift_halves acted (λ l. forgotten_part) h (λ l p. refl)
+drift_forgotten acted Tape h = drift_halves acted (λ l. with_pairs all_pairs) (registers_forgotten h) (λ l p. rw (all_drifted_pairs acted) refl)
+    ∙ ap motion_forgotten (drift_halves acted (λ l. forgotten_part) h (λ l p. refl))
+drift_forgotten acted Everything h = by (halves_remain h) ∙ ap (λ (b : Bool). if b then all_or_none (halves_rate h) true else halves_drifted acted h) (sym same)
   where
-    same : halves_remain (halves_drifted deck h) ≡ halves_remain h
-    same = ap (λ b. b || part_remains (drifted_part deck h.local)) (drift_some deck h.remote.pairs) ∙ ap (λ b. part_remains h.remote || b) (drift_some deck h.local.pairs)
+    same : halves_remain (halves_drifted acted h) ≡ halves_remain h
+    same = ap (λ b. b || part_remains (drifted_part acted h.local)) (drift_some acted h.remote.pairs) ∙ ap (λ b. part_remains h.remote || b) (drift_some acted h.local.pairs)
 
-    by : (b : Bool) → halves_drifted deck (if b then all_or_none (halves_rate h) true else h) ≡ (if b then all_or_none (halves_rate h) true else halves_drifted deck h)
-    by true = drifted_all deck (halves_rate h) true
+    by : (b : Bool) → halves_drifted acted (if b then all_or_none (halves_rate h) true else h) ≡ (if b then all_or_none (halves_rate h) true else halves_drifted acted h)
+    by true = drifted_all acted (halves_rate h) true
     by false = refl
 
 -- forgetting may leave a state as it is
 forgets_itself : (deck : Option Deck) (rate : Rate) (g : Forgotten) (s : State) → IsState rate s → Forgets (untouched deck rate) g s s
 forgets_itself deck rate g s valid = grind arith
 
-pub after_forgotten : (deck : Option Deck) (rate : Rate) (may_stay : Bool) (g : Forgotten) (h : Halves) → HalvesWhole rate h → HalvesBelow h
-    → HasEffect deck rate may_stay (effect.Forget g) (halves_drifted deck h) (halves_drifted deck (halves_forgotten g h))
-after_forgotten deck rate m g h whole below = subst (HasEffect deck rate m (effect.Forget g) (halves_drifted deck h)) (sym (drift_forgotten deck g h))
-    (leads_as rate (Forgets (untouched deck rate) g) (DoesOrStays (untouched deck rate) m (effect.Forget g)) (λ n. n) (counted (effect.Forget g)) (halves_drifted deck h)
-    (halves_forgotten g (halves_drifted deck h)) (λ s t f. inl f) (λ s t i d. elim d [
+pub after_forgotten : (acted : Acted) (rate : Rate) (may_stay : Bool) (g : Forgotten) (h : Halves) → HalvesWhole rate h → HalvesBelow h
+    → HasEffect acted.deck rate may_stay (effect.Forget g) (halves_drifted acted h) (halves_drifted acted (halves_forgotten g h))
+after_forgotten acted rate m g h whole below = subst (HasEffect acted.deck rate m (effect.Forget g) (halves_drifted acted h)) (sym (drift_forgotten acted g h))
+    (leads_as rate (Forgets (untouched acted.deck rate) g) (DoesOrStays (untouched acted.deck rate) m (effect.Forget g)) (λ n. n) (counted (effect.Forget g)) (halves_drifted acted h)
+    (halves_forgotten g (halves_drifted acted h)) (λ s t f. inl f) (λ s t i d. elim d [
       | inl f ↦ f
-      | inr (stays, e) ↦ rw e (forgets_itself deck rate g s
-          (state_is rate (in_local (halves_drifted deck h) s.local) s (of_rate rate (in_local (halves_drifted deck h) s.local) (whole_in rate (halves_drifted deck h) (drift_whole deck rate h whole) s.local))
-          (drift_below deck h below s.local) i))
+      | inr (stays, e) ↦ rw e (forgets_itself acted.deck rate g s
+          (state_is rate (in_local (halves_drifted acted h) s.local) s (of_rate rate (in_local (halves_drifted acted h) s.local) (whole_in rate (halves_drifted acted h) (drift_whole acted rate h whole) s.local))
+          (drift_below acted h below s.local) i))
     ]) (λ n. refl)
-    (halves_forget deck rate g (halves_drifted deck h) (drift_whole deck rate h whole)))
+    (halves_forget acted.deck rate g (halves_drifted acted h) (drift_whole acted rate h whole)))
 
 -- ---- a register's time
 
@@ -560,31 +561,31 @@ reads_status rate status h whole = reads rate (λ s. ShowsStatus s status) (λ l
 -- ---- deeds
 
 -- a drift, and then what a deed makes of the states
-pub taken : (deck : Option Deck) (rate : Rate) (d : Deed) (h g : Halves) → HalvesWhole rate h
-    → LeadsOn rate (Acts d (untouched deck rate)) (counts_after d) (halves_drifted deck h) g → Taken deck rate d h g
-taken deck rate d h g whole led = leads_then rate (Drift (untouched deck rate)) (Acts d (untouched deck rate)) (λ n. n) (counts_after d) h (halves_drifted deck h) g
-    (drift_leads deck rate h whole) led
+pub taken : (acted : Acted) (rate : Rate) (d : Deed) (h g : Halves) → HalvesWhole rate h
+    → LeadsOn rate (Acts d (untouched acted.deck rate)) (counts_after d) (halves_drifted acted h) g → TakenQuietly acted rate d h g
+taken acted rate d h g whole led = leads_then rate (Drift (untouched acted.deck rate) (quiet acted.on)) (Acts d (untouched acted.deck rate)) (λ n. n) (counts_after d) h (halves_drifted acted h) g
+    (drift_leads acted rate h whole) led
 
-drift_sensed : (deck : Option Deck) (r : Register) (time : Option ℕ) (h : Halves)
-    → halves_drifted deck (halves_sensed r time h) ≡ map_halves (λ l. where_remains (sensed_part r time)) (halves_drifted deck h)
-drift_sensed deck r time h = ap (halves_drifted deck) (halves_same _ (map_halves (λ l. where_remains (sensed_part r time)) h) (by h.remote (part_remains h.remote))
+drift_sensed : (acted : Acted) (r : Register) (time : Option ℕ) (h : Halves)
+    → halves_drifted acted (halves_sensed r time h) ≡ map_halves (λ l. where_remains (sensed_part r time)) (halves_drifted acted h)
+drift_sensed acted r time h = ap (halves_drifted acted) (halves_same _ (map_halves (λ l. where_remains (sensed_part r time)) h) (by h.remote (part_remains h.remote))
     (by h.local (part_remains h.local)))
-    ∙ drift_halves deck (λ l. sensed_part r time) h (λ l p. drift_settled deck (with_entries r (agreeing time (entries_of r p)) p)
-    ∙ ap settled (drift_put deck r (agreeing time) p))
+    ∙ drift_halves acted (λ l. sensed_part r time) h (λ l p. drift_settled acted (with_entries r (agreeing time (entries_of r p)) p)
+    ∙ ap settled (drift_put acted r (agreeing time) p))
   where
     by : (p : Part) (b : Bool) → put_settled r (if b then Some (agreeing time (entries_of r p)) else None) p ≡ (if b then sensed_part r time p else p)
     by p b = grind arith
 
-pub taken_read : (deck : Option Deck) (rate : Rate) (r : Register) (time : Option ℕ) (h : Halves) → HalvesWhole rate h
-    → Taken deck rate (deed.Read r time) h (halves_drifted deck (halves_sensed r time h))
-taken_read deck rate r time h whole = rw (drift_sensed deck r time h) (taken deck rate (deed.Read r time) h
-    (map_halves (λ l. where_remains (sensed_part r time)) (halves_drifted deck h)) whole
-    (reads rate (λ s. Gives rate time (entry_of r s)) (λ l. sensed_part r time) (halves_drifted deck h) (drift_whole deck rate h whole) (sense_exactly rate r time)
+pub taken_read : (acted : Acted) (rate : Rate) (r : Register) (time : Option ℕ) (h : Halves) → HalvesWhole rate h
+    → TakenQuietly acted rate (deed.Read r time) h (halves_drifted acted (halves_sensed r time h))
+taken_read acted rate r time h whole = rw (drift_sensed acted r time h) (taken acted rate (deed.Read r time) h
+    (map_halves (λ l. where_remains (sensed_part r time)) (halves_drifted acted h)) whole
+    (reads rate (λ s. Gives rate time (entry_of r s)) (λ l. sensed_part r time) (halves_drifted acted h) (drift_whole acted rate h whole) (sense_exactly rate r time)
     (λ l p same. whole_settled rate (with_entries r (agreeing time (entries_of r p)) p)
     (put_rate rate r (agreeing time (entries_of r p)) p same (agreeing_rate time (entries_of r p))))
     (λ l n p few. few_settled n _ (few_put n r (agreeing time (entries_of r p)) p few (few_agreeing _ time (entries_of r p))))))
 
-pub taken_report : (deck : Option Deck) (rate : Rate) (status : Status) (h : Halves) → HalvesWhole rate h
-    → Taken deck rate (deed.Report status) h (halves_status status (halves_drifted deck h))
-taken_report deck rate status h whole = taken deck rate (deed.Report status) h (halves_status status (halves_drifted deck h)) whole
-    (reads_status rate status (halves_drifted deck h) (drift_whole deck rate h whole))
+pub taken_report : (acted : Acted) (rate : Rate) (status : Status) (h : Halves) → HalvesWhole rate h
+    → TakenQuietly acted rate (deed.Report status) h (halves_status status (halves_drifted acted h))
+taken_report acted rate status h whole = taken acted rate (deed.Report status) h (halves_status status (halves_drifted acted h)) whole
+    (reads_status rate status (halves_drifted acted h) (drift_whole acted rate h whole))

@@ -1,6 +1,6 @@
 -- Single things that a tracker keeps: sets of modes, one bit at a time; a drift of pairs of goal and shown mode; and
 -- what becomes of a set of entries, one entry at a time.
-use Rattle.track9.proofs.Words.{all_has, and-true, Deck, either, has-and, nothing_has, ten_of, way_of, Gives}
+use Rattle.track9.proofs.Words.{all_has, and-true, either, has-and, nothing_has, ten_of, way_of, Gives}
 use Rattle.track9.proofs.Words.{[], agreeing, Allows, and_parts, any_mode, ap, arith, At, Becomes, BelowDay, bit_of, Bool}
 use Rattle.track9.proofs.Words.{just_of, Rate, with_time, by_goal, Change, changed_entries, Clear, cond_both, contains-every_time, contains-insert_nat, contains-items_nat, contains-just, day}
 use Rattle.track9.proofs.Words.{drifted_with, Entries, Entry, eqb-true, every_mode, every_time, false, false≢true, find_mode, goal_if_shown, goals_of, all_shown, halted}
@@ -10,6 +10,7 @@ use Rattle.track9.proofs.Words.{next_frame, no_entries, not, not-true, Option, o
 use Rattle.track9.proofs.Words.{PairReaches, Prev, prev_frame, read_given, Recall, refl, Reset, same_times, set_entries, SetAt, SetSomewhere}
 use Rattle.track9.proofs.Words.{shown_with, some_entry, some_mode, some_pair, Stop, sym, Tells, time_of, given_reads, Times, true, true_from_ne_false, ℕ}
 use Rattle.track9.proofs.Words.{◌&&◌, ◌<◌, ◌||◌, ◌↔◌, ◌∙◌, ◌∷◌, ◌≡◌, ◌⊎◌}
+use Rattle.track9.specs.Working.Acting.{Acted, way_by}
 use Rattle.std.specs.FinSet as set
 
 -- what is wanted of every mode is wanted of this one
@@ -58,27 +59,40 @@ kept_has s way g m = cond_both (is_some s) (either (either s (modes (bit_of g)))
 halted_has : (p : List ModeSet) (way : ModeSet) (m : Mode) → has (halted p way).0 m ≡ (some_pair p && (is_mode m Stop || has way.0 m))
 halted_has p way m = grind (arith, ten_has (either (modes (bit_of Stop)) way) m, has-or (bit_of Stop) way.0 m, just_has, nothing_has m)
 
--- a mode may be shown with a goal after a drift: as before; where a mode was shown with it, itself or one on the way to it; or with STOP, STOP or
--- one on the way to it
-pub drifted_has : (deck : Option Deck) (p : List ModeSet) (g m : Mode) → has (drifted_with deck p g).0 m
-    ≡ ((has_pair p g m || (is_some (shown_with p g) && (is_mode m g || has (way_of deck g).0 m)))
-    || (is_mode g Stop && (some_pair p && (is_mode m Stop || has (way_of deck Stop).0 m))))
-drifted_has deck p g m = grind (arith, kept_has, halted_has, has-or, or-false)
+-- a mode on the way to a goal, or one that may be going on
+pub way_has : (acted : Acted) (g m : Mode) → has (way_by acted g).0 m ≡ (has (way_of acted.deck g).0 m || has acted.on.modes.0 m)
+way_has acted g m = has-or (way_of acted.deck g).0 acted.on.modes.0 m
 
-pub drifted_from : (deck : Option Deck) (p : List ModeSet) (g m : Mode) → has (drifted_with deck p g).0 m ≡ true
-    → (f : Mode) × (n : Mode) × (has_pair p f n ≡ true) × PairReaches deck f n g m
-drifted_from deck p g m h = elim (or_cases _ _ (sym (drifted_has deck p g m) ∙ h)) [
+pub way_comes : (acted : Acted) (g m : Mode) → has (way_by acted g).0 m ≡ true → (has (way_of acted.deck g).0 m ≡ true) ⊎ (has acted.on.modes.0 m ≡ true)
+way_comes acted g m h = or_cases _ _ (sym (way_has acted g m) ∙ h)
+
+-- a mode may be shown with a goal after a drift: as before; where a mode was shown with it, itself or one of its way; or with STOP, STOP or
+-- one of its way
+drifted_by : (way halt : ModeSet) (p : List ModeSet) (g m : Mode)
+    → has (if is_mode g Stop then either (kept_goal (shown_with p g) way g) (halted p halt) else kept_goal (shown_with p g) way g).0 m
+    ≡ ((has_pair p g m || (is_some (shown_with p g) && (is_mode m g || has way.0 m))) || (is_mode g Stop && (some_pair p && (is_mode m Stop || has halt.0 m))))
+drifted_by way halt p g m = grind (arith, kept_has, halted_has, has-or, or-false)
+
+pub drifted_has : (acted : Acted) (p : List ModeSet) (g m : Mode) → has (drifted_with acted p g).0 m
+    ≡ ((has_pair p g m || (is_some (shown_with p g) && (is_mode m g || has (way_by acted g).0 m)))
+    || (is_mode g Stop && (some_pair p && (is_mode m Stop || has (way_by acted Stop).0 m))))
+drifted_has acted p g m = drifted_by (way_by acted g) (way_by acted Stop) p g m
+
+pub drifted_from : (acted : Acted) (p : List ModeSet) (g m : Mode) → has (drifted_with acted p g).0 m ≡ true
+    → (f : Mode) × (n : Mode) × (has_pair p f n ≡ true) × PairReaches acted.deck acted.on f n g m
+drifted_from acted p g m h = elim (or_cases _ _ (sym (drifted_has acted p g m) ∙ h)) [
   | inl kept ↦ elim (or_cases _ _ kept) [
     | inl same ↦ (g, m, same, inl (refl, inl refl))
     | inr moved ↦ let w = and_parts _ _ moved in let n = some_mode (shown_with p g) w.0 in
-        (g, n.0, n.1, inl (refl, inr (elim (or_cases _ _ w.1) [ inl e ↦ inl (is_mode-same m g e) | inr e ↦ inr e ])))
+        (g, n.0, n.1, inl (refl, inr (elim (or_cases _ _ w.1) [ inl e ↦ inl (is_mode-same m g e) | inr e ↦ inr (way_comes acted g m e) ])))
   ]
   | inr stop ↦ let w = and_parts _ _ stop in let v = and_parts _ _ w.1 in let n = some_mode (all_shown p) v.0 in let f = goes_from p n.0 n.1 in
-      (f.0, n.0, f.1, inr (is_mode-same g Stop w.0, elim (or_cases _ _ v.1) [ inl e ↦ inl (is_mode-same m Stop e) | inr e ↦ inr e ]))
+      (f.0, n.0, f.1, inr (is_mode-same g Stop w.0, elim (or_cases _ _ v.1) [ inl e ↦ inl (is_mode-same m Stop e) | inr e ↦ inr (way_comes acted Stop m e) ]))
 ]
 
-pub drifted_to : (deck : Option Deck) (p : List ModeSet) (f n g m : Mode) → has_pair p f n ≡ true → PairReaches deck f n g m → has (drifted_with deck p g).0 m ≡ true
-drifted_to deck p f n g m h given = grind (arith, drifted_has, mode_some, mode_self, or-true, pairs_some)
+pub drifted_to : (acted : Acted) (p : List ModeSet) (f n g m : Mode) → has_pair p f n ≡ true → PairReaches acted.deck acted.on f n g m
+    → has (drifted_with acted p g).0 m ≡ true
+drifted_to acted p f n g m h given = grind (arith, drifted_has, way_has, mode_some, mode_self, or-true, pairs_some)
 
 pub in_day : (rate : Rate) (t : ℕ) → set.contains (every_time rate) t ≡ true → t < day rate
 in_day rate t h = ltb-true t (day rate) (sym (contains-every_time rate t) ∙ h)

@@ -5,6 +5,7 @@ use Rattle.track9.proofs.Words.{Rate, Some, State, States, ap, false, first_stat
 use Rattle.track9.proofs.Words.{hands_of, head_of, if◌then◌else◌, profile_of, states_rate, halves_rate, refl, states_remain, subst, sym, true, untouched, ◌↔◌}
 use Rattle.track9.proofs.Words.{◌≡◌, ◌≢◌}
 use Rattle.deck9.specs.Contradict.{MayGo}
+use Rattle.deck9.specs.declared.going.Going.{Going}
 use Rattle.deck9.specs.declared.state.Hands.TheVariants as hands
 use Rattle.track9.proofs.EffectLemmas.{halves_forget}
 use Rattle.deck9.proofs.EffectLemmas.{forgets_none}
@@ -75,23 +76,23 @@ remains_forgotten p g X Y valid reached =
     (λ w. (w.0, reached.1 w.0 w.0 w.1 (forgets_none p g w.0 (valid w.0 w.1))), λ w. let a = reached.0 w.0 w.1 in (a.0, a.1))
 
 -- an exchange, and then what is forgotten besides
-pub goes_reached : (p : Profile) (e : Exchange) (X Y Z : State → Type 0) → AreReached X (Exchanges p e.command e.reply) Y → AreReached Y (Forgets p (forgotten_with p.deck e)) Z
-    → AreReached X (Goes p e) Z
-goes_reached p e X Y Z first second = (
+pub goes_reached : (p : Profile) (on : Going) (e : Exchange) (X Y Z : State → Type 0) → AreReached X (Exchanges p on e.command e.reply) Y → AreReached Y (Forgets p (forgotten_with p.deck e)) Z
+    → AreReached X (Goes p on e) Z
+goes_reached p on e X Y Z first second = (
   λ t z. let b = second.0 t z in let a = first.0 b.0 b.1 in (a.0, a.1, (b.0, a.2, b.2)),
   λ s t x (u, exchanges, forgets). second.1 u t (first.1 s u x exchanges) forgets,
 )
 
-pub goes_alone : (p : Profile) (e : Exchange) (X Y : State → Type 0) → forgotten_with p.deck e ≡ Nothing → AreReached X (Exchanges p e.command e.reply) Y → AreReached X (Goes p e) Y
-goes_alone p e X Y none first = goes_reached p e X Y Y first (rw none (λ t y. (t, y, refl), λ s t y same. subst Y (sym same) y))
+pub goes_alone : (p : Profile) (on : Going) (e : Exchange) (X Y : State → Type 0) → forgotten_with p.deck e ≡ Nothing → AreReached X (Exchanges p on e.command e.reply) Y → AreReached X (Goes p on e) Y
+goes_alone p on e X Y none first = goes_reached p on e X Y Y first (rw none (λ t y. (t, y, refl), λ s t y same. subst Y (sym same) y))
 
-pub passes_reached : (p : Profile) (e : Exchange) (X Y Z : State → Type 0) → AreReached X (Passes p e.command) Y → AreReached Y (Forgets p (forgotten_beside p.deck e.command (head_of e.block))) Z
-    → AreReached X (MayGo p false e) Z
-passes_reached p e X Y Z first second = (
+pub passes_reached : (p : Profile) (on : Going) (e : Exchange) (X Y Z : State → Type 0) → AreReached X (Passes p on e.command) Y → AreReached Y (Forgets p (forgotten_beside p.deck e.command (head_of e.block))) Z
+    → AreReached X (MayGo p on false e) Z
+passes_reached p on e X Y Z first second = (
   λ t z. let b = second.0 t z in let a = first.0 b.0 b.1 in (a.0, a.1, (a.2.0, b.0, a.2.1, a.2.2, b.2)),
   λ s t x (d, u, drift, can, forgets). second.1 u t (first.1 s u x (d, drift, can)) forgets,
 )
 
-pub passes_alone : (p : Profile) (e : Exchange) (X Y : State → Type 0) → forgotten_beside p.deck e.command (head_of e.block) ≡ Nothing → AreReached X (Passes p e.command) Y
-    → AreReached X (MayGo p false e) Y
-passes_alone p e X Y none first = passes_reached p e X Y Y first (rw none (λ t y. (t, y, refl), λ s t y same. subst Y (sym same) y))
+pub passes_alone : (p : Profile) (on : Going) (e : Exchange) (X Y : State → Type 0) → forgotten_beside p.deck e.command (head_of e.block) ≡ Nothing → AreReached X (Passes p on e.command) Y
+    → AreReached X (MayGo p on false e) Y
+passes_alone p on e X Y none first = passes_reached p on e X Y Y first (rw none (λ t y. (t, y, refl), λ s t y same. subst Y (sym same) y))

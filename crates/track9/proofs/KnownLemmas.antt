@@ -9,6 +9,7 @@ use Rattle.track9.proofs.Words.{halves_remain, span_count, span_count-begin_coun
 use Rattle.track9.proofs.Words.{Whole, with_entry, ℕ, ◌+◌, ◌||◌, ◌↔◌, ◌∙◌, ◌≡◌, ◌≢◌, ◌≤◌, ◌⊎◌}
 use Rattle.std.specs.FinSet as set
 use Rattle.deck9.specs.declared.knowledge.KnownEntry.TheVariants as entry
+use Rattle.deck9.specs.declared.going.Going.{Going}
 use Rattle.track9.proofs.EntryLemmas.{allowed_some, goals_has, goes_from, goes_to, nil_empty, nothing_allowed, some_allowed, there_time}
 use Rattle.track9.proofs.PanelLemmas.{panel_off}
 use Rattle.track9.proofs.PartLemmas.{a_state, any_way, impossible, in_pairs, live_some, part_whole, possible, put, put_in, put_same, some_live, some_way, state_live}
@@ -205,12 +206,12 @@ pub whole_at_rate : (p : Profile) (w : States) → profile_of p.deck w ≡ p →
 whole_at_rate p w same whole = subst (λ rate. AreWhole rate w) (sym (ap (λ (p : Profile). p.rate) same)) whole
 
 -- what a state is kept of where one was kept before
-pub tracked_next : (d : Deed) (v w : States) (p : Profile) (n : Presets) → AreTracked n v → Follows p d v w → AreTracked (counts_after d n) w
-tracked_next d v w p n kept follows = record { whole = whole_at_rate p w follows.profile follows.whole; few = follows.few n kept.few }
+pub tracked_next : (d : Deed) (v w : States) (p : Profile) (on : Going) (n : Presets) → AreTracked n v → Follows p on d v w → AreTracked (counts_after d n) w
+tracked_next d v w p on n kept follows = record { whole = whole_at_rate p w follows.profile follows.whole; few = follows.few n kept.few }
 
-pub tracked_after : (d : Deed) (v w : States) (p : Profile) (n : Presets) → AreTracked n v → Follows p d v w
+pub tracked_after : (d : Deed) (v w : States) (p : Profile) (on : Going) (n : Presets) → AreTracked n v → Follows p on d v w
     → AreTracked (if states_remain w then counts_after d n else n) w
-tracked_after d v w p n kept follows = grind (arith, whole_at_rate, dead_few)
+tracked_after d v w p on n kept follows = grind (arith, whole_at_rate, dead_few)
 
 -- ---- spans
 

@@ -5,6 +5,7 @@ pub mod EntryLemmas
 pub mod FollowLemmas
 pub mod ForgetLemmas
 pub mod KnownLemmas
+pub mod LoseLemmas
 pub mod OneKnowledge
 pub mod PanelLemmas
 pub mod PartLemmas

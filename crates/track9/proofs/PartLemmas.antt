@@ -2,17 +2,19 @@
 -- begin; and the states with one value of the panel, and all.
 use Rattle.std.proofs.lemmas.Nat.{and_assoc, and_comm}
 use Rattle.std.specs.Int.Bits.{or_add_and}
-use Rattle.track9.proofs.Words.{bit_and, bit_or, Deck}
+use Rattle.track9.proofs.Words.{bit_and, bit_or}
 use Rattle.track9.proofs.Words.{agreeing, all_entries, all_has, all_or_none, all_pairs, all_states, Allows, AreBelow, AreFew, AreReached, AreWhole, arith}
 use Rattle.track9.proofs.Words.{begin_count, begin_count-empty, begin_count-every_time, begin_count-insert, begin_count-just, begin_count-next, begin_count-prev}
 use Rattle.track9.proofs.Words.{begin_count-span_count, begin_count-widened_next, begin_count-widened_prev, BelowDay, Bool, Change, changed_entries, changed_part}
 use Rattle.track9.proofs.Words.{cond_both, count_of, counted, Drift, drift_from_pairs, drifted, drifted_part, drifted_with, Effect, Entries, entries_of, Entry, entry_of, false}
 use Rattle.track9.proofs.Words.{false≢true, first_states, all_shown, has_pair, in_local, inl, InPart, inr, InHalves, part_remains, IsEntry, IsFirst, IsState}
 use Rattle.track9.proofs.Words.{KeepsRest, List, Mode, modes, ModeSet, no_states, nothing_has, on_halves, one_more, Option, or_cases, PairReaches}
-use Rattle.track9.proofs.Words.{pairs_from_drift, part_of, Part, Possible, Presets, refl, RegAudioIn, RegAudioOut, RegIn, Register, RegOut, same_entries, set_entries}
+use Rattle.track9.proofs.Words.{kept_valid, pairs_from_drift, part_of, Part, Possible, Presets, refl, RegAudioIn, RegAudioOut, RegIn, Register, RegOut, set_entries, StaysOrLost}
 use Rattle.track9.proofs.Words.{same_test, SetAt, settled, Some, some_entry, some_mode, some_pair, states_remain, halves_remain, span_count-in_day, State, States, subst, sym}
 use Rattle.track9.proofs.Words.{Times, true, halves_drifted, halves_of, HalvesBelow, HalvesFew, Halves, HalvesWhole, Whole, with_entries, with_entry, with_pairs, ℕ, ◌&&◌, ◌+◌, ◌||◌}
 use Rattle.track9.proofs.Words.{just_of, Profile, Rate, states_rate, halves_rate, part_rate, untouched, ◌↔◌, ◌∙◌, ◌≡◌, ◌≤◌}
+use Rattle.deck9.specs.declared.going.Going.{Going}
+use Rattle.track9.specs.Working.Acting.{Acted, quiet}
 use Rattle.deck9.specs.declared.effect.Effect.TheVariants as effect
 use Rattle.track9.proofs.EntryLemmas.{allowed_some, day_in, drifted_from, drifted_to, goes_from, in_day, no_entry, pair_by_goal, pairs_some, some_allowed}
 
@@ -139,25 +141,25 @@ whole_settled rate p same = cond_both _ p (no_states (part_rate p)) (Whole rate)
     (λ e. subst (λ other. Whole rate (no_states other)) (sym (same RegIn)) (whole_none rate))
 
 -- a drift leaves a state, and makes none from nothing
-pub drift_some : (deck : Option Deck) (p : List ModeSet) → some_pair (drifted deck p) ≡ some_pair p
-drift_some deck p = same_test (some_pair (drifted deck p)) (some_pair p)
-    (λ h. let m = some_mode (all_shown (drifted deck p)) h in let g = goes_from (drifted deck p) m.0 m.1 in
-    let w = drifted_from deck p g.0 m.0 (sym (pair_by_goal (drifted_with deck p) g.0 m.0) ∙ g.1) in pairs_some p w.0 w.1 w.2)
-    (λ h. let m = some_mode (all_shown p) h in let g = goes_from p m.0 m.1 in pairs_some (drifted deck p) g.0 m.0
-    (grind (arith, pair_by_goal (drifted_with deck p) g.0 m.0, drifted_to deck p g.0 m.0 g.0 m.0 g.1)))
+pub drift_some : (acted : Acted) (p : List ModeSet) → some_pair (drifted acted p) ≡ some_pair p
+drift_some acted p = same_test (some_pair (drifted acted p)) (some_pair p)
+    (λ h. let m = some_mode (all_shown (drifted acted p)) h in let g = goes_from (drifted acted p) m.0 m.1 in
+    let w = drifted_from acted p g.0 m.0 (sym (pair_by_goal (drifted_with acted p) g.0 m.0) ∙ g.1) in pairs_some p w.0 w.1 w.2)
+    (λ h. let m = some_mode (all_shown p) h in let g = goes_from p m.0 m.1 in pairs_some (drifted acted p) g.0 m.0
+    (grind (arith, pair_by_goal (drifted_with acted p) g.0 m.0, drifted_to acted p g.0 m.0 g.0 m.0 g.1)))
 
 -- all pairs stay all pairs
 full : (w : ℕ) → bit_or 0x3FF (bit_and w 0x3FF) ≡ 0x3FF
 full w = grind (arith, and_comm 0x3FF (bit_and w 0x3FF), and_assoc 0x3FF w 0x3FF, or_add_and 0x3FF (bit_and w 0x3FF))
 
-pub all_drifted_pairs : (deck : Option Deck) → drifted deck all_pairs ≡ all_pairs
-all_drifted_pairs deck = simp full
+pub all_drifted_pairs : (acted : Acted) → drifted acted all_pairs ≡ all_pairs
+all_drifted_pairs acted = simp full
 
-pub drifted_all : (deck : Option Deck) (rate : Rate) (b : Bool) → halves_drifted deck (all_or_none rate b) ≡ all_or_none rate b
-drifted_all deck rate b = grind (arith, all_drifted_pairs)
+pub drifted_all : (acted : Acted) (rate : Rate) (b : Bool) → halves_drifted acted (all_or_none rate b) ≡ all_or_none rate b
+drifted_all acted rate b = grind (arith, all_drifted_pairs)
 
-pub whole_drift : (deck : Option Deck) (rate : Rate) (p : Part) → Whole rate p → Whole rate (drifted_part deck p)
-whole_drift deck rate p whole = whole_pairs rate (drifted deck p.pairs) p whole (drift_some deck p.pairs)
+pub whole_drift : (acted : Acted) (rate : Rate) (p : Part) → Whole rate p → Whole rate (drifted_part acted p)
+whole_drift acted rate p whole = whole_pairs rate (drifted acted p.pairs) p whole (drift_some acted p.pairs)
 
 -- ---- two parts
 
@@ -256,14 +258,14 @@ both_few n v off on = grind arith
 pub few_pairs : (n : Presets) (q : List ModeSet) (p : Part) → FewIn n p → FewIn n (with_pairs q p)
 few_pairs n q p h = each_register _ (h RegIn) (h RegOut) (h RegAudioIn) (h RegAudioOut)
 
-pub drift_few : (deck : Option Deck) (n : Presets) (h : Halves) → HalvesFew n h → HalvesFew n (halves_drifted deck h)
-drift_few deck n h few l r = grind (arith, few l r)
+pub drift_few : (acted : Acted) (n : Presets) (h : Halves) → HalvesFew n h → HalvesFew n (halves_drifted acted h)
+drift_few acted n h few l r = grind (arith, few l r)
 
-pub drift_whole : (deck : Option Deck) (rate : Rate) (h : Halves) → HalvesWhole rate h → HalvesWhole rate (halves_drifted deck h)
-drift_whole deck rate h whole = record { remote = whole_drift deck rate h.remote whole.remote; local = whole_drift deck rate h.local whole.local }
+pub drift_whole : (acted : Acted) (rate : Rate) (h : Halves) → HalvesWhole rate h → HalvesWhole rate (halves_drifted acted h)
+drift_whole acted rate h whole = record { remote = whole_drift acted rate h.remote whole.remote; local = whole_drift acted rate h.local whole.local }
 
-pub drift_below : (deck : Option Deck) (h : Halves) → HalvesBelow h → HalvesBelow (halves_drifted deck h)
-drift_below deck h below l r = grind (arith, below l r)
+pub drift_below : (acted : Acted) (h : Halves) → HalvesBelow h → HalvesBelow (halves_drifted acted h)
+drift_below acted h below l r = grind (arith, below l r)
 
 -- every state is one of all, and none is one of none
 pub all_exactly : (rate : Rate) (b : Bool) (t : State) → InPart (in_local (all_or_none rate b) t.local) t ↔ ((b ≡ true) × IsState rate t)
@@ -303,24 +305,43 @@ by_panel Goes keeps v w off on = (
 pub state_is : (rate : Rate) (p : Part) (s : State) → OfRate rate p → PartBelow p → InPart p s → IsState rate s
 state_is rate p s same below i r = grind (arith, same r, below r, i.registers r)
 
--- where nobody touches the panel a drift is one of the mechanics
-pub mechanics : (deck : Option Deck) (rate : Rate) (s t : State) → Drift (untouched deck rate) s t → KeepsRest s t × PairReaches deck s.goal s.shown t.goal t.shown
-mechanics deck rate s t d = elim (pairs_from_drift (untouched deck rate) s t d) [ inl kept ↦ kept | inr hand ↦ cc ]
+-- where nobody touches the panel, and no register is lost, a drift is one of the mechanics: nothing but goal and shown mode differs
+pub mechanics : (acted : Acted) (rate : Rate) (s t : State) → Drift (untouched acted.deck rate) (quiet acted.on) s t
+    → (t ≡ record s { goal = t.goal; shown = t.shown }) × PairReaches acted.deck acted.on s.goal s.shown t.goal t.shown
+mechanics acted rate s t d = elim (pairs_from_drift (untouched acted.deck rate) (quiet acted.on) s t d) [ inl w ↦ (kept_alone s t w.0, w.1) | inr hand ↦ cc ]
+  where
+    kept_alone : (s t : State) → KeepsRest (quiet acted.on) s t → t ≡ record s { goal = t.goal; shown = t.shown }
+    kept_alone s t k =
+        let ins = stays RegIn (k.registers RegIn) in let outs = stays RegOut (k.registers RegOut) in
+        let ains = stays RegAudioIn (k.registers RegAudioIn) in let aouts = stays RegAudioOut (k.registers RegAudioOut) in
+        rw (sym ins, sym outs, sym ains, sym aouts, sym k.local, sym k.panel) refl
+      where
+        stays : (r : Register) {e f : Entry} → StaysOrLost (quiet acted.on) r e f → f ≡ e
+        stays r (inl same) = same
+        stays r (inr (never, clear)) = absurd (false≢true never)
+
+pub mechanics_drift : (acted : Acted) (rate : Rate) (s : State) (g m : Mode) → PairReaches acted.deck acted.on g m s.goal s.shown
+    → Drift (untouched acted.deck rate) (quiet acted.on) (record s { goal = g; shown = m }) s
+mechanics_drift acted rate s g m reach = drift_from_pairs (untouched acted.deck rate) (quiet acted.on) (record s { goal = g; shown = m }) s
+    (inl (record { registers = each_register _ (inl refl) (inl refl) (inl refl) (inl refl); local = refl; panel = refl }, reach))
 
 -- and it is one with hands too, unless the panel is on
-pub same_drift : (p : Profile) (s t : State) → Drift (untouched p.deck p.rate) s t → Drift p s t
-same_drift p s t d = drift_from_pairs p s t (inl (mechanics p.deck p.rate s t d))
+pub same_drift : (p : Profile) (on : Going) (s t : State) → Drift (untouched p.deck p.rate) on s t → Drift p on s t
+same_drift p on s t d = elim (pairs_from_drift (untouched p.deck p.rate) on s t d) [ inl w ↦ drift_from_pairs p on s t (inl w) | inr hand ↦ cc ]
 
-pub off_drift : (p : Profile) (s t : State) → s.panel ≡ false → Drift p s t → Drift (untouched p.deck p.rate) s t
-off_drift p s t off d = grind (arith, pairs_from_drift, drift_from_pairs, false≢true)
+pub off_drift : (p : Profile) (on : Going) (s t : State) → s.panel ≡ false → Drift p on s t → Drift (untouched p.deck p.rate) on s t
+off_drift p on s t off d = elim (pairs_from_drift p on s t d) [
+  | inl w ↦ drift_from_pairs (untouched p.deck p.rate) on s t (inl w)
+  | inr w ↦ absurd (false≢true (sym off ∙ w.1))
+]
 
 -- a drift keeps the panel
-pub drift_panel : (p : Profile) (s d : State) → Drift p s d → d.panel ≡ s.panel
-drift_panel p s d drift = grind (arith, pairs_from_drift p s d drift)
+pub drift_panel : (p : Profile) (on : Going) (s d : State) → Drift p on s d → d.panel ≡ s.panel
+drift_panel p on s d drift = elim (pairs_from_drift p on s d drift) [ inl w ↦ w.0.panel | inr w ↦ w.2 ∙ sym w.1 ]
 
 -- and leads from states of the day to such states
-pub drift_state : (p : Profile) (s d : State) → IsState p.rate s → Drift p s d → IsState p.rate d
-drift_state p s d valid drift = grind (arith, pairs_from_drift p s d drift, same_entries p.rate s d)
+pub drift_state : (p : Profile) (on : Going) (s d : State) → IsState p.rate s → Drift p on s d → IsState p.rate d
+drift_state p on s d valid drift = elim (pairs_from_drift p on s d drift) [ inl w ↦ kept_valid p.rate on s d w.0 valid | inr w ↦ w.3 ]
 
 -- a state of a set is one of the day
 pub possible_state : (rate : Rate) (v : States) (s : State) → AreWhole rate v → AreBelow v → Possible v s → IsState rate s

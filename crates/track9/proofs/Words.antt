@@ -1,6 +1,6 @@
 -- The names from elsewhere that the proofs of this crate cite, passed on from one place. Declares nothing.
 pub use Rattle.block9.specs.declared.exchange.Exchange.{Exchange}
-pub use Rattle.deck9.proofs.DriftLemmas.{drift_from_pairs, pairs_from_drift, same_entries}
+pub use Rattle.deck9.proofs.DriftLemmas.{drift_from_pairs, kept_valid, pairs_from_drift}
 pub use Rattle.deck9.proofs.ModeLemmas.{is_mode-same}
 pub use Rattle.deck9.proofs.ModeSetLemmas.{all_has, any_mode, find_mode, has-and, has-or, just_has, just_mode, mode_just, mode_self, mode_some, nothing_has}
 pub use Rattle.deck9.proofs.ModeSetLemmas.{some_mode}
@@ -33,7 +33,8 @@ pub use Rattle.track9.specs.Tracker.{IsIn}
 pub use Rattle.track9.specs.Working.Pattern.{any_goal, any_panel, ComesTo, DoesOrIgnores, entry_before, Fits, forgotten_before, Is, is_as_wanted, IsIgnored, IsPattern, just_state, LeadsTo, PairRunsTo}
 pub use Rattle.track9.specs.Working.Pattern.{panel_before, pattern_before, RunsTo, wanted_before, wanted_of, with_wanted}
 pub use Rattle.track9.specs.Working.Deck.{Agrees, Allows, AreReached, AreSet, Pattern, At, Becomes, begin_count, BelowDay, bit_of, Block, both, CanPass, Change, Clear, Command, count_of}
-pub use Rattle.deck9.specs.Drift.{ComesToShow}
+pub use Rattle.deck9.specs.Drift.{ComesToShow, StaysOrLost}
+pub use Rattle.deck9.specs.Going.{goes_on, may_lose, on_at_first}
 pub use Rattle.track9.specs.Working.Deck.{way_of, Deck, Forgotten}
 pub use Rattle.track9.specs.Working.Deck.{day, Does, done, Drift, Effect, effect_of, either, Entries, entries_of, Entry, entry_of, every_time, Exchanges, Hands, has}
 pub use Rattle.track9.specs.Working.Deck.{has_pair, ignored, in_local, InPart, is_mode, is_nak, is_set, is_some, IsEntry, IsFirst, IsState}
@@ -44,17 +45,17 @@ pub use Rattle.track9.specs.Working.Deck.{time_of, Times, Tracked, Halves, way, 
 unfoldable pub use Rattle.track9.specs.Working.Deck.{span_count}
 pub use Rattle.track9.specs.Working.Deed.{Acts, counted, counts_after, deed_exchanged, deed_passed, deed_showing, DoesOrStays, Gives, is_frugal_deed, is_wide, no_deed}
 pub use Rattle.track9.specs.declared.deed.Deed.{Deed}
-pub use Rattle.track9.specs.Working.Entries.{agreeing, all_entries, is_nil, no_entries, set_entries, some_entry}
+pub use Rattle.track9.specs.Working.Entries.{agreeing, all_entries, is_nil, lost_entries, no_entries, set_entries, some_entry}
 pub use Rattle.track9.specs.Working.Knowing.{states_goals, join_options, known_fact, KnowsOf, PartKnows, states_shown, HalvesKnow}
 pub use Rattle.track9.specs.Working.Pairs.{all_pairs, by_goal, ten_of, drifted, drifted_with, goal_if_shown, goals_of, all_shown, gone, halted, joined, kept_goal, masked, pairs_of, shown_if}
 pub use Rattle.track9.specs.Working.Pairs.{some_pair}
-pub use Rattle.track9.specs.Working.Parts.{all_states, changed_entries, changed_part, drifted_part, forgotten_part, gone_pairs, gone_part, HasState, kept_or_gone, kept_or_gone_part}
+pub use Rattle.track9.specs.Working.Parts.{all_states, changed_entries, changed_part, drifted_part, forgotten_part, gone_pairs, gone_part, HasState, lost_part, kept_or_gone, kept_or_gone_part}
 pub use Rattle.track9.specs.Working.Parts.{part_remains, masked_part, no_states, put_settled, part_rate, reported_part, sensed_part, set_where, settled, status_part, where_remains, Whole, with_entries}
 pub use Rattle.track9.specs.Working.Parts.{with_pairs}
 pub use Rattle.track9.specs.Working.States.{after_panel, all_drifted, all_forgotten, all_or_none, AllLeadOn, AreBelow, AreFew, AreWhole, DriftsAndGoes}
 pub use Rattle.track9.specs.Working.States.{either_panel, first_states, Follows, hands_by, hands_of, HasEffect, InHalves, remains_with_panel_on, AreTracked}
-pub use Rattle.track9.specs.Working.States.{LeadsOn, map_halves, on_halves, motion_forgotten, registers_forgotten, panel_passed, part_of, profile_of, states_rate, halves_rate, states_remain, halves_remain, switched, Taken, halves_changed, halves_drifted, halves_gone, untouched, halves_kept_or_gone}
-pub use Rattle.track9.specs.Following.{FollowsFrom, KeepsEnds, Leads, LeadsFrom}
+pub use Rattle.track9.specs.Working.States.{LeadsOn, map_halves, on_halves, motion_forgotten, registers_forgotten, panel_passed, part_of, profile_of, states_rate, halves_rate, states_remain, halves_remain, switched, Taken, TakenQuietly, halves_changed, halves_drifted, halves_gone, halves_lost, halves_moved, untouched, halves_kept_or_gone}
+pub use Rattle.track9.specs.Following.{FollowsFrom, KeepsEnds, Leads, LeadsFrom, left_on, left_through}
 pub use Rattle.track9.specs.Start.{StartsFrom}
 pub use Rattle.track9.specs.Working.Starts.{entries_known, modes_known, part_from, part_known, states_from, halves_from}
 pub use Rattle.track9.specs.declared.start.Start.{Start}

@@ -8,6 +8,7 @@ use Rattle.deck9.specs.declared.mode_set.ModeSet.{ModeSet}
 use Rattle.track9.specs.Presets.{Presets}
 use Rattle.deck9.specs.declared.state.Entry.{Entry}
 use Rattle.deck9.specs.declared.state.Entry.TheVariants.{Clear, At}
+use Rattle.deck9.specs.declared.going.Going.{Going}
 use Rattle.deck9.specs.declared.profile.Profile.{Profile}
 use Rattle.tc25.specs.declared.rate.Rate.{Rate}
 use Rattle.deck9.specs.declared.state.Register.{Register}
@@ -81,8 +82,9 @@ IsIn (Some h) s = InPart (in_local h s.local) s
 abbrev pub Possible : States → State → Type 0
 Possible v s = IsIn (if s.panel then v.on else Some v.off) s
 
--- a tracker: the states that are possible, what the deck is taken for, and the presets that were counted
+-- a tracker: the states that are possible, what the deck is taken for, the presets that were counted, and what may be going on
 pub record Tracked : Type 0 where
   pub states : States
   pub profile : Profile
   pub presets : Presets
+  pub going : Going

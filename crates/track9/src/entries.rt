@@ -5,7 +5,7 @@ ghost use Rattle.track9.specs.Tracker.{Allows};
 ghost use Rattle.track9.specs.Working.Pattern.{Is};
 ghost use Rattle.track9.specs.Working.Knowing.{KnowsOf};
 ghost use Rattle.track9.specs.Working.Starts.{entries_known};
-ghost use Rattle.track9.specs.Working.Entries.{agreeing, all_entries, changed, no_entries, set_entries, some_entry, widened};
+ghost use Rattle.track9.specs.Working.Entries.{agreeing, all_entries, changed, lost_entries, no_entries, set_entries, some_entry, widened};
 ghost use Rattle.track9.specs.Working.Touched.{touched_entries};
 ghost use Rattle.deck9.specs.declared.state.Entry.{Entry as AEntry};
 
@@ -112,6 +112,27 @@ impl<S: TimeSet> Entries<S> {
         ensures { BelowDay self.now.rate self.now.times }
     {
         let _ = &self.times;
+    }
+
+    /// Whether one of them is Clear.
+    pub(crate) fn may_clear(&self) -> bool
+        ensures { result ≡ self.now.may_clear }
+    {
+        self.may_clear
+    }
+
+    /// Whether one of them is Clear is this from here on.
+    pub(crate) fn set_clear(&mut self, may_clear: bool)
+        ensures { self.new ≡ record self.old { may_clear = may_clear } }
+    {
+        self.may_clear = may_clear;
+    }
+
+    /// One of them may have been lost. Takes no memory.
+    pub(crate) fn lose(&mut self, lost: bool)
+        ensures { self.new ≡ lost_entries lost self.old }
+    {
+        self.may_clear |= lost;
     }
 
     /// Whether there is an entry.

@@ -11,12 +11,13 @@ ghost use Rattle.sets25.specs.Times.{BelowDay, span_count};
 ghost use Rattle.track9.specs.Frugal.{is_frugal_effect};
 ghost use Rattle.track9.specs.Tracker.{entries_of, in_local};
 ghost use Rattle.track9.specs.Working.Starts.{part_from, halves_from};
-ghost use Rattle.track9.specs.Working.States.{HalvesBelow, HalvesWhole, all_forgotten, all_or_none, motion_forgotten, halves_rate, registers_forgotten, halves_remain, halves_changed, halves_drifted, halves_forgotten, halves_gone, halves_kept_or_gone, halves_sensed, halves_status};
+ghost use Rattle.track9.specs.Working.States.{HalvesBelow, HalvesWhole, all_forgotten, all_or_none, motion_forgotten, halves_rate, registers_forgotten, halves_remain, halves_changed, halves_drifted, halves_forgotten, halves_gone, halves_kept_or_gone, halves_lost, halves_moved, halves_sensed, halves_status};
 
+use crate::acting::Acting;
 use crate::part::Part;
 use crate::pattern::is_wanted;
 use crate::start::Start;
-use deck9::{Change, DeckRef, Forgotten, Mode, ModeSet, Register, Status};
+use deck9::{Change, Forgotten, Lost, Mode, ModeSet, Register, Status};
 use sets25::{SpanSet, TimeSet};
 use std::alloc::{AllocError, Global};
 use std::marker::Model;
@@ -120,25 +121,42 @@ impl<S: TimeSet> Halves<S> {
         self.remote.remains() || self.local.remains()
     }
 
-    /// A drift of the mechanics. It answers whether there is a state.
-    #[inline(never)] // so that the modes are taken side by side, also where a command follows
-    pub(crate) fn drift(&mut self, deck: &DeckRef) -> bool
-        ensures drifted { self.new ≡ halves_drifted deck.now self.old }
+    /// Registers may have been lost. Takes no memory.
+    pub(crate) fn lose(&mut self, lost: Lost)
+        ensures { self.new ≡ halves_lost lost self.old }
+    {
+        self.remote.lose(lost);
+        self.local.lose(lost);
+    }
+
+    /// A drift, with what may be lost. It answers whether there is a state.
+    pub(crate) fn move_on(&mut self, acting: &Acting) -> bool
+        ensures moved { self.new ≡ halves_moved acting.now self.old }
         ensures some { result ≡ halves_remain self.new }
     {
-        let remote = self.remote.drift(deck);
-        let local = self.local.drift(deck);
+        self.lose(acting.going().lost);
+        self.drift(acting)
+    }
+
+    /// A drift of the mechanics. It answers whether there is a state.
+    #[inline(never)] // so that the modes are taken side by side, also where a command follows
+    pub(crate) fn drift(&mut self, acting: &Acting) -> bool
+        ensures drifted { self.new ≡ halves_drifted acting.now self.old }
+        ensures some { result ≡ halves_remain self.new }
+    {
+        let remote = self.remote.drift(acting);
+        let local = self.local.drift(acting);
         remote || local
     }
 
     /// A drift of the mechanics, and then the deck is commanded to a mode; a deck in LOCAL may ignore that, and so may any
     /// where `may_stay`. It answers whether there is a state.
     #[inline(always)] // many commands are of the transport
-    fn drift_and_go(&mut self, deck: &DeckRef, may_stay: bool, goal: Mode) -> bool
-        ensures gone { self.new ≡ halves_gone may_stay goal (halves_drifted deck.now self.old) }
+    fn drift_and_go(&mut self, acting: &Acting, may_stay: bool, goal: Mode) -> bool
+        ensures gone { self.new ≡ halves_gone may_stay goal (halves_drifted acting.now self.old) }
         ensures some { result ≡ halves_remain self.new }
     {
-        let some = self.drift(deck);
+        let some = self.drift(acting);
         self.remote.go(may_stay, goal);
         self.local.go(true, goal);
         some
@@ -147,11 +165,11 @@ impl<S: TimeSet> Halves<S> {
     /// A drift of the mechanics, and then the deck goes on as it was, or is commanded to one of these modes. It answers whether there is
     /// a state.
     #[inline(never)] // as it is rare
-    fn drift_and_keep_or_go(&mut self, deck: &DeckRef, goals: ModeSet) -> bool
-        ensures gone { self.new ≡ halves_kept_or_gone goals (halves_drifted deck.now self.old) }
+    fn drift_and_keep_or_go(&mut self, acting: &Acting, goals: ModeSet) -> bool
+        ensures gone { self.new ≡ halves_kept_or_gone goals (halves_drifted acting.now self.old) }
         ensures some { result ≡ halves_remain self.new }
     {
-        let some = self.drift(deck);
+        let some = self.drift(acting);
         self.remote.keep_or_go(goals);
         self.local.keep_or_go(goals);
         some

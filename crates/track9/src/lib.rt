@@ -4,6 +4,7 @@
 //! listed, exactly the states in which some run of the deck that gives these replies could have left it.
 #![tactic(auto)]
 
+mod acting;
 mod at_25;
 mod deed;
 mod entries;
@@ -19,6 +20,7 @@ mod start;
 mod states;
 mod tracker;
 
+pub use following::Lasting;
 pub use kept::Kept;
 pub use start::Start;
 pub use tracker::Tracker;

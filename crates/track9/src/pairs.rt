@@ -10,8 +10,9 @@ ghost use Rattle.track9.specs.Working.Parts.{gone_pairs, kept_or_gone};
 ghost use Rattle.track9.specs.Working.Pairs.{all_pairs, drifted, drifted_with, all_shown, gone, gone_with, goal_if_shown, goals_of, halted, joined, kept_goal, masked, no_pairs, pairs_of, shown_if, some_pair};
 ghost use Rattle.deck9.specs.declared.mode.Mode.{Mode as AMode};
 
+use crate::acting::Acting;
 use crate::start::known_modes;
-use deck9::{DeckRef, Mode, ModeSet};
+use deck9::{Mode, ModeSet};
 
 /// The modes that may be shown with each goal, in the order of the modes.
 #[derive(Clone, Copy, PartialEq, Eq)]
@@ -111,10 +112,10 @@ impl Pairs {
 
     /// The pairs that a drift of the mechanics reaches.
     #[inline(always)] // so that what `drift` has asked is not asked again
-    pub(crate) fn drifted(&self, deck: &DeckRef) -> Pairs
-        ensures { result.0 ≡ drifted deck.now self.now.0 }
+    pub(crate) fn drifted(&self, acting: &Acting) -> Pairs
+        ensures { result.0 ≡ drifted acting.now self.now.0 }
     {
-        let [a, b, c, d, e, f, g, h, i, j] = *deck.ways();
+        let [a, b, c, d, e, f, g, h, i, j] = *acting.ways();
         let halted = self.halted(a);
         Pairs([
             self.kept(Mode::Stop, a).or(halted),
@@ -132,13 +133,13 @@ impl Pairs {
 
     /// A drift of the mechanics. It answers whether there is a pair.
     #[inline(always)] // each exchange drifts two sets of pairs
-    pub(crate) fn drift(&mut self, deck: &DeckRef) -> bool
-        ensures drifted { self.new.0 ≡ drifted deck.now self.old.0 }
+    pub(crate) fn drift(&mut self, acting: &Acting) -> bool
+        ensures drifted { self.new.0 ≡ drifted acting.now self.old.0 }
         ensures some { result ≡ some_pair self.new.0 }
     {
         let some = self.is_some();
         if some {
-            *self = self.drifted(deck);
+            *self = self.drifted(acting);
         }
         some
     }
@@ -168,17 +169,17 @@ impl Pairs {
 
     /// A pair from which a drift of the mechanics reaches one of these goals with one of these modes shown: None
     /// exactly where there is none.
-    pub(crate) fn origin(&self, deck: &DeckRef, goals: ModeSet, shown: ModeSet) -> Option<Pair>
-        ensures some { IfSome result (λ p. IsPairOf self.now.0 p × PairRunsTo deck.now goals shown p.goal p.shown) }
-        ensures none { IfNone result (¬ ((f n : AMode) × (has_pair self.now.0 f n ≡ true) × PairRunsTo deck.now goals shown f n)) }
+    pub(crate) fn origin(&self, acting: &Acting, goals: ModeSet, shown: ModeSet) -> Option<Pair>
+        ensures some { IfSome result (λ p. IsPairOf self.now.0 p × PairRunsTo acting.now goals shown p.goal p.shown) }
+        ensures none { IfNone result (¬ ((f n : AMode) × (has_pair self.now.0 f n ≡ true) × PairRunsTo acting.now goals shown f n)) }
     {
-        let reached = self.drifted(deck).masked(shown);
+        let reached = self.drifted(acting).masked(shown);
         let goals = reached.goals().and(goals);
         if !goals.is_some() {
             return None;
         }
         let goal = goals.first();
-        Some(self.source(deck, goal, reached.shown(goal).first()))
+        Some(self.source(acting, goal, reached.shown(goal).first()))
     }
 
     /// A pair with what is known of goal and shown mode: None exactly where there is none.
@@ -199,15 +200,15 @@ impl Pairs {
     }
 
     /// A pair from which a drift of the mechanics reaches this one. There is one.
-    fn source(&self, deck: &DeckRef, goal: Mode, shown: Mode) -> Pair
-        requires { has (drifted_with deck.now self.now.0 goal).0 shown ≡ true }
-        ensures { IsPairOf self.now.0 result × PairReaches deck.now result.goal result.shown goal shown }
+    fn source(&self, acting: &Acting, goal: Mode, shown: Mode) -> Pair
+        requires { has (drifted_with acting.now self.now.0 goal).0 shown ≡ true }
+        ensures { IsPairOf self.now.0 result × PairReaches acting.now.deck acting.now.on result.goal result.shown goal shown }
     {
         let kept = self.shown(goal);
         if kept.has(shown) {
             return Pair { goal, shown };
         }
-        let on_the_way = ModeSet::just(goal).or(deck.way(goal));
+        let on_the_way = ModeSet::just(goal).or(acting.way(goal));
         if kept.is_some() && on_the_way.has(shown) {
             return Pair {
                 goal,

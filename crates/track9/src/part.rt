@@ -6,17 +6,18 @@ ghost use Rattle.track9.specs.Working.Entries.{agreeing};
 ghost use Rattle.track9.specs.Working.Knowing.{PartKnows};
 ghost use Rattle.track9.specs.Working.Pairs.{all_pairs};
 ghost use Rattle.track9.specs.Working.Starts.{part_known};
-ghost use Rattle.track9.specs.Working.Parts.{Whole, all_states, aside, changed_entries, changed_part, drifted_part, forgotten_part, gone_part, kept_or_gone_part, part_remains, no_states, put_settled, part_rate, reported_part, set_part, settled, status_part, where_remains, with_entries, with_pairs};
+ghost use Rattle.track9.specs.Working.Parts.{Whole, all_states, aside, changed_entries, changed_part, drifted_part, forgotten_part, gone_part, kept_or_gone_part, clears_of, lost_part, with_clears, part_remains, no_states, put_settled, part_rate, reported_part, set_part, settled, status_part, where_remains, with_entries, with_pairs};
 ghost use Rattle.track9.specs.Working.Touched.{touched_part};
 ghost use Rattle.deck9.specs.declared.state.Register.{Register as ARegister};
 ghost use Rattle.tc25.specs.declared.rate.Rate.{Rate as ARate};
 
+use crate::acting::Acting;
 use crate::entries::Entries;
 use crate::kept::Kept;
 use crate::pairs::Pairs;
 use crate::pattern::is_wanted;
 use crate::start::{Start, known_modes};
-use deck9::{Change, DeckRef, KnownEntry, Mode, ModeSet, Register, RegistersSet, Status};
+use deck9::{Change, KnownEntry, Lost, Mode, ModeSet, Register, RegistersSet, Status};
 use sets25::{SpanSet, TimeSet};
 use std::alloc::{AllocError, Global};
 use std::marker::Model;
@@ -32,6 +33,15 @@ pub(crate) struct Part<S: TimeSet> {
     outs: Entries<S>,
     ains: Entries<S>,
     aouts: Entries<S>,
+}
+
+/// Whether each register may be Clear.
+#[derive(Clone, Copy)]
+pub(crate) struct Clears {
+    ins: bool,
+    outs: bool,
+    ains: bool,
+    aouts: bool,
 }
 
 impl<S: TimeSet> Model for Part<S> {
@@ -192,13 +202,48 @@ impl<S: TimeSet> Part<S> {
         }
     }
 
+    /// Registers may have been lost, where there is a state. Takes no memory.
+    pub(crate) fn lose(&mut self, lost: Lost)
+        ensures { self.new ≡ where_remains (lost_part lost) self.old }
+    {
+        if !self.remains() {
+            return;
+        }
+        self.ins.lose(lost.has(Register::RegIn));
+        self.outs.lose(lost.has(Register::RegOut));
+        self.ains.lose(lost.has(Register::RegAudioIn));
+        self.aouts.lose(lost.has(Register::RegAudioOut));
+    }
+
+    /// Whether each register may be Clear: IN, OUT, audio IN, audio OUT.
+    pub(crate) fn clears(&self) -> Clears
+        ensures { result ≡ clears_of self.now }
+    {
+        Clears {
+            ins: self.ins.may_clear(),
+            outs: self.outs.may_clear(),
+            ains: self.ains.may_clear(),
+            aouts: self.aouts.may_clear(),
+        }
+    }
+
+    /// Each register may be Clear where this says so.
+    pub(crate) fn put_clears(&mut self, clears: Clears)
+        ensures { self.new ≡ with_clears clears self.old }
+    {
+        self.ins.set_clear(clears.ins);
+        self.outs.set_clear(clears.outs);
+        self.ains.set_clear(clears.ains);
+        self.aouts.set_clear(clears.aouts);
+    }
+
     /// A drift of the mechanics. It answers whether there is a state.
     #[inline(always)] // each exchange drifts two parts
-    pub(crate) fn drift(&mut self, deck: &DeckRef) -> bool
-        ensures drifted { self.new ≡ drifted_part deck.now self.old }
+    pub(crate) fn drift(&mut self, acting: &Acting) -> bool
+        ensures drifted { self.new ≡ drifted_part acting.now self.old }
         ensures live { result ≡ part_remains self.new }
     {
-        self.pairs.drift(deck)
+        self.pairs.drift(acting)
     }
 
     /// The deck is commanded to a mode, which it may also ignore where `may_stay`.

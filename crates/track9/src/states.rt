@@ -12,12 +12,13 @@ ghost use Rattle.track9.specs.Working.Starts.{states_from};
 ghost use Rattle.track9.specs.Working.Deed.{deed_of, is_frugal_deed, is_wide, no_deed};
 ghost use Rattle.track9.specs.Working.States.{AreBelow, AreWhole, Follows, Taken, after_panel, all_or_none, either_panel, first_states, hands_of, remains_with_panel_on, panel_passed, part_of, profile_of, states_rate, states_remain};
 
+use crate::acting::Acting;
 use crate::deed::Deed;
 use crate::halves::Halves;
 use crate::start::Start;
 use block9::{Block, Command};
 use boxed::{all_boxed, copy_boxed};
-use deck9::{DeckRef, Effect, Forgotten, Hands, Register};
+use deck9::{Effect, Forgotten, Hands, Register};
 use sets25::{SpanSet, TimeSet};
 use std::alloc::{AllocError, Global};
 use std::marker::Model;
@@ -152,51 +153,58 @@ impl<S: TimeSet> States<S> {
     pub(crate) fn take(
         &mut self,
         alloc: Global,
-        deck: &DeckRef,
+        acting: &Acting,
         command: &Command,
         reply: Option<&Block>,
     ) -> Result<bool, AllocError>
         requires { AreWhole (states_rate self.old) self.old }
-        ensures ok { OnOk result (Follows (profile_of deck.now self.old) (deed_of deck.now (states_rate self.old) command.now (option_map (λ b. b.now) reply.entry)) self.old self.new) }
+        ensures ok { OnOk result (Follows (profile_of acting.now.deck self.old) acting.now.on (deed_of acting.now.deck (states_rate self.old) command.now (option_map (λ b. b.now) reply.entry)) self.old self.new) }
         ensures some { IfOk result (λ b. b ≡ states_remain self.new) }
         ensures err { OnErr result (self.new ≡ self.old) }
-        ensures frugal { hands_of self.old ≡ Hands.None → IsTrue (is_frugal_deed (deed_of deck.now (states_rate self.old) command.now (option_map (λ b. b.now) reply.entry))) → IsOk result }
+        ensures frugal { hands_of self.old ≡ Hands.None → IsTrue (is_frugal_deed (deed_of acting.now.deck (states_rate self.old) command.now (option_map (λ b. b.now) reply.entry))) → IsOk result }
     {
         let rate = self.rate();
         match self.hands() {
             // decoded here, so that each command goes straight to its effect
-            Hands::None => self
-                .off
-                .take(alloc, deck, &Deed::of(deck, rate, command, reply)),
+            Hands::None => self.off.take(
+                alloc,
+                acting,
+                &Deed::of(&acting.deck, rate, command, reply),
+            ),
             Hands::Allowed => {
-                self.take_by_hand(alloc, deck, &Deed::of(deck, rate, command, reply))?;
+                self.take_by_hand(alloc, acting, &Deed::of(&acting.deck, rate, command, reply))?;
                 Ok(self.remains())
             }
         }
     }
 
     /// The states after a drift alone. Where memory is refused nothing has changed.
-    pub(crate) fn drift(&mut self, alloc: Global, deck: &DeckRef) -> Result<(), AllocError>
+    pub(crate) fn drift(&mut self, alloc: Global, acting: &Acting) -> Result<(), AllocError>
         requires { AreWhole (states_rate self.old) self.old }
-        ensures ok { OnOk result (Follows (profile_of deck.now self.old) no_deed self.old self.new) }
+        ensures ok { OnOk result (Follows (profile_of acting.now.deck self.old) acting.now.on no_deed self.old self.new) }
         ensures err { OnErr result (self.new ≡ self.old) }
         ensures frugal { hands_of self.old ≡ Hands.None → IsOk result }
     {
         let nothing = Deed::nothing();
         match self.hands() {
             Hands::None => {
-                self.off.take(alloc, deck, &nothing)?;
+                self.off.take(alloc, acting, &nothing)?;
                 Ok(())
             }
-            Hands::Allowed => self.take_by_hand(alloc, deck, &nothing),
+            Hands::Allowed => self.take_by_hand(alloc, acting, &nothing),
         }
     }
 
     /// The states after a drift and a deed, where hands are allowed.
-    fn take_by_hand(&mut self, alloc: Global, deck: &DeckRef, deed: &Deed) -> Result<(), AllocError>
+    fn take_by_hand(
+        &mut self,
+        alloc: Global,
+        acting: &Acting,
+        deed: &Deed,
+    ) -> Result<(), AllocError>
         requires whole { AreWhole (states_rate self.old) self.old }
         requires hands { hands_of self.old ≡ Hands.Allowed }
-        ensures ok { OnOk result (Follows (profile_of deck.now self.old) deed.now self.old self.new) }
+        ensures ok { OnOk result (Follows (profile_of acting.now.deck self.old) acting.now.on deed.now self.old self.new) }
         ensures err { OnErr result (self.new ≡ self.old) }
     {
         self.below_day();
@@ -206,16 +214,16 @@ impl<S: TimeSet> States<S> {
                 may_stay,
             } => {
                 if *may_stay {
-                    self.pass_panel(alloc, deck, *on)
+                    self.pass_panel(alloc, acting, *on)
                 } else {
-                    self.switch_panel(alloc, deck, *on)
+                    self.switch_panel(alloc, acting, *on)
                 }
             }
             Deed::Apply {
                 effect: Effect::Forget(Forgotten::Everything),
                 ..
             } => self.forget_all(alloc),
-            _ => self.take_both(alloc, deck, deed),
+            _ => self.take_both(alloc, acting, deed),
         }
     }
 
@@ -228,20 +236,20 @@ impl<S: TimeSet> States<S> {
 
     /// The states after a deed to which a hand on the panel makes no difference: those with the panel on are what it makes of
     /// everything, if there were any, aside.
-    fn take_both(&mut self, alloc: Global, deck: &DeckRef, deed: &Deed) -> Result<(), AllocError>
+    fn take_both(&mut self, alloc: Global, acting: &Acting, deed: &Deed) -> Result<(), AllocError>
         requires whole { AreWhole (states_rate self.old) self.old }
         requires hands { hands_of self.old ≡ Hands.Allowed }
         requires narrow { is_wide deed.now ≡ false }
-        ensures ok { OnOk result (Follows (profile_of deck.now self.old) deed.now self.old self.new) }
+        ensures ok { OnOk result (Follows (profile_of acting.now.deck self.old) acting.now.on deed.now self.old self.new) }
         ensures err { OnErr result (self.new ≡ self.old) }
     {
         self.below_day();
         let mut on = self.drifted_on(alloc)?;
-        if let Err(error) = on.take(alloc, deck, deed) {
+        if let Err(error) = on.take(alloc, acting, deed) {
             drop(on);
             return Err(error);
         }
-        if let Err(error) = self.off.take(alloc, deck, deed) {
+        if let Err(error) = self.off.take(alloc, acting, deed) {
             drop(on);
             return Err(error);
         }
@@ -250,24 +258,24 @@ impl<S: TimeSet> States<S> {
     }
 
     /// What a drift leaves, whatever the panel: every state where the panel was on.
-    fn either_panel(&self, alloc: Global, deck: &DeckRef) -> Result<Halves<S>, AllocError>
-        ensures { IfOk result (λ h. h ≡ either_panel deck.now self.now) }
+    fn either_panel(&self, alloc: Global, acting: &Acting) -> Result<Halves<S>, AllocError>
+        ensures { IfOk result (λ h. h ≡ either_panel acting.now self.now) }
     {
         if self.remains_with_panel_on() {
             return Halves::all_or_none(alloc, self.rate(), true);
         }
         let mut off = self.off.copy()?;
-        off.drift(deck);
+        off.move_on(acting);
         Ok(off)
     }
 
     /// The panel is switched on or off, after a drift.
-    fn switch_panel(&mut self, alloc: Global, deck: &DeckRef, on: bool) -> Result<(), AllocError>
+    fn switch_panel(&mut self, alloc: Global, acting: &Acting, on: bool) -> Result<(), AllocError>
         requires { hands_of self.old ≡ Hands.Allowed }
-        ensures ok { OnOk result (self.new ≡ after_panel deck.now on self.old) }
+        ensures ok { OnOk result (self.new ≡ after_panel acting.now on self.old) }
         ensures err { OnErr result (self.new ≡ self.old) }
     {
-        let known = self.either_panel(alloc, deck)?;
+        let known = self.either_panel(alloc, acting)?;
         let none = Halves::none(alloc, self.rate());
         if on {
             self.put(none, known);
@@ -298,14 +306,14 @@ impl<S: TimeSet> States<S> {
     }
 
     /// The panel may be switched on or off, after a drift, or stay.
-    fn pass_panel(&mut self, alloc: Global, deck: &DeckRef, on: bool) -> Result<(), AllocError>
+    fn pass_panel(&mut self, alloc: Global, acting: &Acting, on: bool) -> Result<(), AllocError>
         requires { hands_of self.old ≡ Hands.Allowed }
-        ensures ok { OnOk result (self.new ≡ panel_passed deck.now on self.old) }
+        ensures ok { OnOk result (self.new ≡ panel_passed acting.now on self.old) }
         ensures err { OnErr result (self.new ≡ self.old) }
     {
-        let known = self.either_panel(alloc, deck)?;
+        let known = self.either_panel(alloc, acting)?;
         if on {
-            self.off.drift(deck);
+            self.off.move_on(acting);
             self.put_on(known);
             return Ok(());
         }

@@ -7,6 +7,7 @@ ghost use Rattle.track9.specs.Presets.{IsSpanCount, count_of, presets_after, wit
 ghost use Rattle.deck9.specs.Contradict.{Passes};
 ghost use Rattle.deck9.specs.Drift.{Drift};
 ghost use Rattle.deck9.specs.Effect.{effect_of};
+ghost use Rattle.deck9.specs.Going.{on_at_first};
 ghost use Rattle.deck9.specs.State.{IsFirst};
 ghost use Rattle.deck9.specs.Step.{AreReached, Exchanges, Goes};
 ghost use Rattle.track9.specs.Start.{StartsFrom};
@@ -16,12 +17,13 @@ ghost use Rattle.deck9.specs.declared.mode.Mode.{Mode as AMode};
 ghost use Rattle.deck9.specs.declared.state.Register.{Register as ARegister};
 ghost use Rattle.deck9.specs.declared.state.State.{State as AState};
 
+use crate::acting::Acting;
 use crate::kept::Kept;
 use crate::presets::Presets;
 use crate::start::Start;
 use crate::states::States;
 use block9::{Block, Command, Exchange};
-use deck9::{DeckRef, Hands, Knowledge, ModeSet, Profile, Register, State};
+use deck9::{DeckRef, Going, Hands, Knowledge, ModeSet, Profile, Register, State};
 use sets25::{SpanSet, TimeSet};
 use std::alloc::{AllocError, Global};
 use std::marker::Model;
@@ -38,7 +40,7 @@ mod forgetting;
 pub struct Tracker<'a, S: TimeSet> {
     states: States<S>,
     presets: Presets,
-    deck: DeckRef<'a>,
+    acting: Acting<'a>,
     alloc: Global,
 }
 
@@ -52,7 +54,7 @@ impl<'a, S: TimeSet> Model for Tracker<'a, S> {
 
     ghost use Rattle.track9.specs.Working.States.{AreTracked, profile_of};
 
-    ghost view = { λ t. record { states = t.states; profile = profile_of t.deck t.states; presets = t.presets } };
+    ghost view = { λ t. record { states = t.states; profile = profile_of t.acting.deck t.states; presets = t.presets; going = t.acting.on } };
 
     ghost invariant = { λ t. AreTracked t.presets t.states };
 }
@@ -65,6 +67,7 @@ impl<'a, S: TimeSet> Tracker<'a, S> {
     pub fn of(alloc: Global, profile: &'a Profile) -> Result<Self, AllocError>
         ensures states { IfOk result (λ t. (s : AState) → Possible t.states s ↔ IsFirst profile.now s) }
         ensures profile { IfOk result (λ t. t.profile ≡ profile.now) }
+        ensures going { IfOk result (λ t. t.going ≡ on_at_first profile.now.deck) }
         ensures presets { IfOk result (λ t. (r : ARegister) → count_of r t.presets ≡ 0) }
     {
         Tracker::begin(alloc, profile.rate, profile.hands, profile.deck_ref())
@@ -79,12 +82,14 @@ impl<'a, S: TimeSet> Tracker<'a, S> {
     ) -> Result<Self, AllocError>
         ensures states { IfOk result (λ t. (s : AState) → Possible t.states s ↔ IsFirst (record { rate = rate; hands = hands; deck = deck.entry }) s) }
         ensures profile { IfOk result (λ t. t.profile ≡ record { rate = rate; hands = hands; deck = deck.entry }) }
+        ensures going { IfOk result (λ t. t.going ≡ on_at_first deck.entry) }
         ensures presets { IfOk result (λ t. (r : ARegister) → count_of r t.presets ≡ 0) }
     {
+        let going = deck.on_at_first();
         Ok(Tracker {
             states: States::first(alloc, rate, hands)?,
             presets: Presets::none(),
-            deck,
+            acting: Acting::new(deck, going),
             alloc,
         })
     }
@@ -96,14 +101,17 @@ impl<'a, S: TimeSet> Tracker<'a, S> {
     pub fn starting(alloc: Global, profile: &'a Profile, start: &Start) -> Result<Self, AllocError>
         ensures states { IfOk result (λ t. (s : AState) → Possible t.states s ↔ (IsFirst (record profile.now { hands = Hands.None }) s × StartsFrom start.now s)) }
         ensures profile { IfOk result (λ t. t.profile ≡ record profile.now { hands = Hands.None }) }
+        ensures going { IfOk result (λ t. t.going ≡ on_at_first profile.now.deck) }
         ensures presets { IfOk result (λ t. (r : ARegister) → count_of r t.presets ≡ 0) }
     {
         let states = States::known_to_be(alloc, profile.rate, start)?;
         states.below_day();
+        let deck = profile.deck_ref();
+        let going = deck.on_at_first();
         Ok(Tracker {
             states,
             presets: Presets::none(),
-            deck: profile.deck_ref(),
+            acting: Acting::new(deck, going),
             alloc,
         })
     }
@@ -120,17 +128,18 @@ impl<'a, S: TimeSet> Tracker<'a, S> {
     /// comes for a NAK, nor for a command that asks for no register's time and changes and forgets no register.
     #[inline(always)] // each exchange of a capture comes here
     pub fn observe(&mut self, command: &Command, reply: &Block) -> Result<bool, AllocError>
-        ensures reached { IfOk result (λ b. AreReached (Possible self.old.states) (Exchanges self.old.profile command.now reply.now) (Possible self.new.states)) }
+        ensures reached { IfOk result (λ b. AreReached (Possible self.old.states) (Exchanges self.old.profile self.old.going command.now reply.now) (Possible self.new.states)) }
         ensures remains { IfOk result (λ b. IsTrue b ↔ ((s : AState) × Possible self.new.states s)) }
         ensures over { ¬ ((s : AState) × Possible self.old.states s) → IfOk result (λ b. b ≡ false) }
         ensures profile { IfOk result (λ b. self.new.profile ≡ self.old.profile) }
+        ensures going { IfOk result (λ b. self.new.going ≡ self.old.going) }
         ensures presets { IfOk result (λ b. self.new.presets ≡ presets_after command.now reply.now b self.old.presets) }
         ensures unchanged { IfErr result (λ e. self.new ≡ self.old) }
         ensures frugal { self.old.profile.hands ≡ Hands.None → IsTrue (is_frugal self.old.profile.deck command.now reply.now) → IsOk result }
     {
         let remains = self
             .states
-            .take(self.alloc, &self.deck, command, Some(reply))?;
+            .take(self.alloc, &self.acting, command, Some(reply))?;
         self.presets.count_exchange(command, reply, remains);
         Ok(remains)
     }
@@ -145,14 +154,15 @@ impl<'a, S: TimeSet> Tracker<'a, S> {
     /// An error comes where memory is refused, and the tracker is then as it was. Where hands are not allowed none comes
     /// for a command that changes and forgets no register.
     pub fn pass(&mut self, command: &Command) -> Result<(), AllocError>
-        ensures reached { OnOk result (AreReached (Possible self.old.states) (Passes self.old.profile command.now) (Possible self.new.states)) }
+        ensures reached { OnOk result (AreReached (Possible self.old.states) (Passes self.old.profile self.old.going command.now) (Possible self.new.states)) }
         ensures remains { OnOk result (((s : AState) × Possible self.old.states s) ↔ ((s : AState) × Possible self.new.states s)) }
         ensures profile { OnOk result (self.new.profile ≡ self.old.profile) }
+        ensures going { OnOk result (self.new.going ≡ self.old.going) }
         ensures presets { OnOk result (self.new.presets ≡ with_command command.now self.old.presets) }
         ensures unchanged { OnErr result (self.new ≡ self.old) }
         ensures frugal { self.old.profile.hands ≡ Hands.None → IsTrue (is_frugal_effect (effect_of self.old.profile.deck command.now)) → IsOk result }
     {
-        self.states.take(self.alloc, &self.deck, command, None)?;
+        self.states.take(self.alloc, &self.acting, command, None)?;
         self.presets.count_command(command);
         Ok(())
     }
@@ -164,14 +174,15 @@ impl<'a, S: TimeSet> Tracker<'a, S> {
     ///
     /// An error comes where memory is refused, and the tracker is then as it was. Where hands are not allowed none comes.
     pub fn drift(&mut self) -> Result<(), AllocError>
-        ensures reached { OnOk result (AreReached (Possible self.old.states) (Drift self.old.profile) (Possible self.new.states)) }
+        ensures reached { OnOk result (AreReached (Possible self.old.states) (Drift self.old.profile self.old.going) (Possible self.new.states)) }
         ensures remains { OnOk result (((s : AState) × Possible self.old.states s) ↔ ((s : AState) × Possible self.new.states s)) }
         ensures profile { OnOk result (self.new.profile ≡ self.old.profile) }
+        ensures going { OnOk result (self.new.going ≡ self.old.going) }
         ensures presets { OnOk result (self.new.presets ≡ self.old.presets) }
         ensures unchanged { OnErr result (self.new ≡ self.old) }
         ensures frugal { self.old.profile.hands ≡ Hands.None → IsOk result }
     {
-        self.states.drift(self.alloc, &self.deck)?;
+        self.states.drift(self.alloc, &self.acting)?;
         Ok(())
     }
 
@@ -185,15 +196,16 @@ impl<'a, S: TimeSet> Tracker<'a, S> {
     pub fn touched(&self, kept: &Kept) -> Result<Self, AllocError>
         ensures reached { IfOk result (λ t. AreReached (Possible self.now.states) (Touches self.now.profile.rate kept.now) (Possible t.states)) }
         ensures profile { IfOk result (λ t. t.profile ≡ self.now.profile) }
+        ensures going { IfOk result (λ t. t.going ≡ self.now.going) }
         ensures presets { IfOk result (λ t. t.presets ≡ self.now.presets) }
     {
         self.states.below_day();
         let states = self.states.touched(self.alloc, kept)?;
-        let (presets, deck) = (self.presets.copy(), self.deck.copy());
+        let (presets, acting) = (self.presets.copy(), self.acting.copy());
         Ok(Tracker {
             states,
             presets,
-            deck,
+            acting,
             alloc: self.alloc,
         })
     }
@@ -214,7 +226,7 @@ impl<'a, S: TimeSet> Tracker<'a, S> {
         Ok(Tracker {
             states: self.states.copy()?,
             presets: self.presets.copy(),
-            deck: self.deck.copy(),
+            acting: self.acting.copy(),
             alloc: self.alloc,
         })
     }
@@ -240,20 +252,28 @@ impl<'a, S: TimeSet> Tracker<'a, S> {
     /// A possible state from which a drift alone leads to the target, or `None` exactly where there is none. Which one it is of
     /// several is not said. Takes no memory.
     pub fn before_drift(&self, target: &State) -> Option<State>
-        ensures some { IfSome result (λ s. Possible self.now.states s × Drift self.now.profile s target.now) }
-        ensures none { IfNone result (¬ ((s : AState) × Possible self.now.states s × Drift self.now.profile s target.now)) }
+        ensures some { IfSome result (λ s. Possible self.now.states s × Drift self.now.profile self.now.going s target.now) }
+        ensures none { IfNone result (¬ ((s : AState) × Possible self.now.states s × Drift self.now.profile self.now.going s target.now)) }
     {
-        self.states.before_drift(&self.deck, target)
+        self.states.before_drift(&self.acting, target)
     }
 
     /// A possible state from which the exchange leads to the target, or `None` exactly where there is none: a drift, a step of the
     /// deck with this reply to this command, and what the deck forgets besides. Which one it is of several is not said. Takes no
     /// memory.
     pub fn before_exchange(&self, exchange: &Exchange, target: &State) -> Option<State>
-        ensures some { IfSome result (λ s. Possible self.now.states s × Goes self.now.profile exchange.now s target.now) }
-        ensures none { IfNone result (¬ ((s : AState) × Possible self.now.states s × Goes self.now.profile exchange.now s target.now)) }
+        ensures some { IfSome result (λ s. Possible self.now.states s × Goes self.now.profile self.now.going exchange.now s target.now) }
+        ensures none { IfNone result (¬ ((s : AState) × Possible self.now.states s × Goes self.now.profile self.now.going exchange.now s target.now)) }
     {
-        self.states.before_exchange(&self.deck, exchange, target)
+        self.states.before_exchange(&self.acting, exchange, target)
+    }
+
+    /// What the deck may do by itself from here on. Takes no memory.
+    #[inline(always)]
+    pub fn going(&self) -> Going
+        ensures { result ≡ self.now.going }
+    {
+        self.acting.going()
     }
 
     /// The modes that some possible state shows, with no bit above theirs. Takes no memory.

@@ -5,6 +5,7 @@
 //!
 //! A function that owns a tracker hands it to `drop` when it is done: the tracker's end in place, at each way out, would
 //! cost the proof of that function most of its time.
+mod acting;
 mod all_states;
 mod before;
 mod copied;
@@ -61,9 +62,13 @@ fn observe<S: TimeSet>(
     command: &Command,
     reply: &Block,
 ) -> Result<bool, AllocError> {
+    observe_block(rt, tracker, command, named_block(rt, command), reply)
+}
+
+/// A command's block that has its first two bytes, as far as a sheet may name them.
+fn named_block(rt: &impl Abort, command: &Command) -> Block {
     let head = head_of(command);
-    let block = drawn::block(rt, (head / 256 % 256) as u8, (head % 256) as u8, [0; 15]);
-    observe_block(rt, tracker, command, block, reply)
+    drawn::block(rt, (head / 256 % 256) as u8, (head % 256) as u8, [0; 15])
 }
 
 /// The same with this block of the command.

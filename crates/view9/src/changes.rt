@@ -1,5 +1,6 @@
-//! What an exchange changes of what is known of the deck.
+//! What an exchange changes of what is known of the deck, and of what the deck may do by itself.
 
+use crate::by_itself::ByItself;
 use crate::field::{FIELDS, Field, Value};
 use deck9::Hands;
 use seen9::SeenExchange;
@@ -40,12 +41,13 @@ const NEVER_KNOWN: LastKnown = LastKnown {
     is_lapse_told: false,
 };
 
-/// Follows what is known of the deck, from one exchange to the next.
+/// Follows what is known of the deck and what it may do by itself, from one exchange to the next.
 #[derive(Drop)]
 pub struct Changes {
     hands: Hands,
     last: [LastKnown; FIELDS],
     changes: Vec<Change>,
+    by_itself: ByItself,
     is_news: bool,
 }
 
@@ -56,6 +58,7 @@ impl Changes {
             hands,
             last: [NEVER_KNOWN; FIELDS],
             changes: Vec::new(alloc),
+            by_itself: ByItself::NOTHING,
             is_news: false,
         }
     }
@@ -71,10 +74,11 @@ impl Changes {
         }
     }
 
-    /// Takes what is known after the next exchange.
+    /// Takes what is known after the next exchange, and what the deck may do by itself then.
     pub fn take(&mut self, seen: &SeenExchange<'_>) -> Result<(), AllocError> {
         self.changes.clear();
-        self.is_news = false;
+        self.by_itself = ByItself::of(seen);
+        self.is_news = self.by_itself.is_change();
         if seen.before == Some(seen.after) {
             return Ok(()); // which is so of most queries
         }
@@ -114,14 +118,28 @@ impl Changes {
         Ok(())
     }
 
-    /// What the last exchange changed.
+    /// What the last exchange changed of what is known.
     pub fn as_slice(&self) -> &[Change] {
         self.changes.as_slice()
     }
 
-    /// Whether that is told by itself, though the exchange only asked.
+    /// Whether it changed what the deck may do by itself.
+    pub fn is_by_itself(&self) -> bool {
+        self.by_itself.is_change()
+    }
+
+    /// Whether what it changed is told by itself, though the exchange only asked.
     pub fn is_news(&self) -> bool {
         self.is_news
+    }
+
+    /// Puts all that it changed, with times at this rate.
+    pub fn put(&self, line: &mut Text, rate: Rate) {
+        for change in self.as_slice() {
+            line.put(", ");
+            change.put(line, rate);
+        }
+        self.by_itself.put_changes(line);
     }
 }
 
@@ -135,13 +153,5 @@ impl Change {
         }
         line.put(" => ");
         line.put_with(|text| self.to.put(text, rate));
-    }
-}
-
-/// Puts changes, with times at this rate.
-pub fn put_changes(line: &mut Text, changes: &[Change], rate: Rate) {
-    for change in changes {
-        line.put(", ");
-        change.put(line, rate);
     }
 }

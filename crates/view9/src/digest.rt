@@ -1,7 +1,8 @@
-//! The digest: each command, and each query that changes what is known of the deck; the queries between them are counted.
+//! The digest: each command, and each query that changes what is known of the deck or what it may do by itself; the queries between
+//! them are counted.
 
 use crate::break_run::BreakRun;
-use crate::changes::{Changes, put_changes};
+use crate::changes::Changes;
 use crate::put_ending::put_ending;
 use crate::strength::Strength;
 use crate::tally::Tally;
@@ -59,7 +60,7 @@ impl<'a, W: Write> Digest<'a, W> {
         Place::of(seen).put(line);
         line.put_with(|text| put_command(text, "", profile, seen.exchange));
         line.put_with(|text| put_reply(text, " -> ", &seen.exchange.reply));
-        put_changes(line, self.changes.as_slice(), profile.rate);
+        self.changes.put(line, profile.rate);
         line.put("\n");
     }
 

@@ -4,6 +4,7 @@
 #![tactic(auto)]
 
 mod break_run;
+mod by_itself;
 mod called;
 mod changes;
 mod clock;
@@ -26,7 +27,7 @@ mod worth;
 
 pub use break_run::BreakRun;
 pub use called::Called;
-pub use changes::{Change, Changes, put_changes};
+pub use changes::{Change, Changes};
 pub use clock::{ClockFault, write_clock};
 pub use delay_counts::DelayCounts;
 pub use delays::Delays;

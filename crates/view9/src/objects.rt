@@ -90,6 +90,7 @@ fn exchange_line<'e>(
     line.put_called(profile, exchange);
     line.put("delay_us", Told::Count(exchange.delay_us));
     line.put_fields(profile, &seen.after, Field::told(profile.hands));
+    line.put_going(seen.going);
     if detail == Detail::Bytes {
         line.put("first_record", Told::Count(u64::from(seen.first)));
         line.put("time_us", Told::Count(exchange.time_us));

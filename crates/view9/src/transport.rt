@@ -1,9 +1,10 @@
 //! Transport commands: what each asks for, and what came of one that was acknowledged.
 
+use crate::by_itself::{has_line_for, put_going};
 use crate::called::Called;
 use crate::track::{Place, Track, put_track};
 use block9::Command;
-use deck9::{DeckRef, Effect, Known, Mode, ModeSet, Profile};
+use deck9::{DeckRef, Effect, Going, Known, Mode, ModeSet, Profile};
 use report9::put_modes;
 use seen9::SeenExchange;
 use text9::Text;
@@ -39,6 +40,8 @@ pub(crate) struct Followed<'a> {
     pub(crate) place: Place,
     /// Whether the deck was known to be in LOCAL, and so may have ignored it.
     is_local: bool,
+    /// What the deck may do by itself from there on.
+    going: Going,
     statuses: u32,
     /// How long after the acknowledgement the last status came, in microseconds.
     statuses_us: u64,
@@ -78,7 +81,7 @@ impl Way {
 
 impl<'a> Transport<'a> {
     /// What the command of an exchange asks for, where it is one of the transport. One that is not listed is one by its group,
-    /// unless a sheet has a name for it.
+    /// unless a sheet has a name for it, and one after which the deck may act by itself is one with a name too.
     pub(crate) fn of(profile: &'a Profile, seen: &SeenExchange<'_>) -> Option<Transport<'a>> {
         let command = &seen.exchange.command;
         let called = Called::of(profile, seen.exchange);
@@ -86,6 +89,7 @@ impl<'a> Transport<'a> {
             (Effect::Go(mode), _) => Some(mode),
             (Effect::KeepOr(_), _) => None,
             (_, Called::Head(head)) if head / 0x10_00 == 2 => None,
+            _ if has_line_for(profile, seen.exchange) => None,
             _ => return None,
         };
         let way = Way::of(command);
@@ -100,6 +104,7 @@ impl<'a> Followed<'a> {
             transport,
             place: Place::of(seen),
             is_local: matches!(seen.after.local, Known::Is(true)),
+            going: seen.going,
             statuses: 0,
             statuses_us: 0,
             response_us: None,
@@ -129,7 +134,7 @@ impl<'a> Followed<'a> {
         self.transport.mode.is_some() && self.response_us.is_none() && self.statuses > 0
     }
 
-    /// Puts its text: what came of it, how often which modes were shown, and the times.
+    /// Puts its text: what came of it, how often which modes were shown, the times, and what the deck may do by itself after it.
     pub(crate) fn put(&self, line: &mut Text, shown: &[(ModeSet, u32)]) {
         line.put_with(|text| self.transport.called.put(text));
         line.put(if self.is_local { " in local: " } else { ": " });
@@ -139,6 +144,7 @@ impl<'a> Followed<'a> {
         }
         put_shown(line, shown);
         put_track(line, &self.times);
+        put_going(line, self.going);
     }
 
     /// Puts when the mode was shown first.

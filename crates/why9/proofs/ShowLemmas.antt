@@ -19,7 +19,7 @@ before_last profile es t b f =
 
 -- what is then known, and which modes are shown
 pub could_show : (profile : Profile) (es : List Exchange) (old new : Tracked) (k : Knowledge) (set : ModeSet) (b : BreaksAtLast profile es)
-    → KeepsEnds profile (take (length es - 1) es) old → AreReached (Possible old.states) (Drift old.profile) (Possible new.states)
+    → KeepsEnds profile (take (length es - 1) es) old → AreReached (Possible old.states) (Drift old.profile old.going) (Possible new.states)
     → IsKnowledge (Possible new.states) k → set.0 < 2 ^ 10 → ((m : Mode) → (has set.0 m ≡ true) ↔ ((s : State) × Possible new.states s × (s.shown ≡ m)))
     → CouldShow profile es k set
 could_show profile es old new k set b f reached knows ten shows = record {
@@ -34,5 +34,5 @@ could_show profile es old new k set b f reached knows ten shows = record {
     same : (t : State) → Possible new.states t ↔ CouldBe profile b.before t
     same t =
         let follows = rw (but_last profile es b) at f in
-        let goes = rw follows.profile at reached in
+        let goes = rw (follows.profile, follows.going) at reached in
         (λ p. let s = goes.0 t p in (s.0, (follows.states s.0).0 s.1, s.2), λ w. goes.1 w.0 t ((follows.states w.0).1 w.1) w.2)

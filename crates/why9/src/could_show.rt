@@ -1,5 +1,6 @@
 //! What the deck could show when it gave a reply after which no run of the deck remains.
 ghost use Rattle.std.specs.Prelude.{◌≡◌, ◌↔◌, IfOk};
+ghost use Rattle.deck9.specs.Going.{on_at_first};
 ghost use Rattle.deck9.specs.State.{IsFirst};
 ghost use Rattle.deck9.specs.declared.state.State.{State as AState};
 ghost use Rattle.track9.specs.Tracker.{Possible};
@@ -40,6 +41,7 @@ fn shown_after(
     requires breaks { BreaksAtLast profile.now exchanges.now }
     requires states { (s : AState) → Possible tracker.old.states s ↔ IsFirst profile.now s }
     requires profile { tracker.old.profile ≡ profile.now }
+    requires going { tracker.old.going ≡ on_at_first profile.now.deck }
     ensures { IfOk result (λ told. CouldShow profile.now exchanges.now told.0 told.1) }
 {
     tracker.follow(&exchanges[..exchanges.len() - 1])?;

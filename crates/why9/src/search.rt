@@ -4,6 +4,7 @@
 //! exchanges between them. A question goes on from a copy of it, so it looks at no place found again.
 ghost use Rattle.std.specs.Prelude.{◌≡◌, ◌↔◌, ◌<◌, ◌≤◌, ◌+◌, IfOk, false, length, nat_le, true};
 ghost use Rattle.deck9.specs.Contradict.{Contradict, HasBelieving};
+ghost use Rattle.deck9.specs.Going.{on_at_first};
 ghost use Rattle.deck9.specs.State.{IsFirst};
 ghost use Rattle.deck9.specs.declared.state.State.{State as AState};
 ghost use Rattle.track9.specs.Tracker.{Possible};
@@ -47,6 +48,7 @@ fn find_places(
 ) -> Result<Vec<usize>, AllocError>
     requires breaks { BreaksAtLast tracker.old.profile exchanges.now }
     requires states { (s : AState) → Possible tracker.old.states s ↔ IsFirst tracker.old.profile s }
+    requires going { tracker.old.going ≡ on_at_first tracker.old.profile.deck }
     ensures { IfOk result (λ places. IsContradiction tracker.old.profile exchanges.now places.items) }
 {
     let mut places = Vec::new(alloc);
@@ -65,11 +67,12 @@ fn find_places(
 
 /// The greatest place from which on the replies contradict one another, by a tracker that has taken nothing yet.
 ///
-/// From the first states, passing exchanges leads to all first states again. So a question passes none: it begins at its
-/// place, and costs what lies after it.
+/// From the first states, passing exchanges leads to all first states again, and all that the sheet names may still be going on.
+/// So a question passes none: it begins at its place, and costs what lies after it.
 fn first_place(tracker: &Tracker<SpanSet>, exchanges: &[Exchange]) -> Result<usize, AllocError>
     requires breaks { BreaksAtLast tracker.now.profile exchanges.now }
     requires states { (s : AState) → Possible tracker.now.states s ↔ IsFirst tracker.now.profile s }
+    requires going { tracker.now.going ≡ on_at_first tracker.now.profile.deck }
     ensures within { IfOk result (λ place. place < length exchanges.now) }
     ensures contradict { IfOk result (λ place. Contradict tracker.now.profile (nat_le place) exchanges.now) }
     ensures after { IfOk result (λ place. HasBelieving tracker.now.profile (nat_le (place + 1)) exchanges.now) }
@@ -100,10 +103,10 @@ fn next_place(
     low: usize,
     between: usize,
 ) -> Result<usize, AllocError>
-    requires { IsBetween tracker.old.profile (Possible tracker.old.states) exchanges.now low (length exchanges.now) }
+    requires { IsBetween tracker.old.profile tracker.old.going (Possible tracker.old.states) exchanges.now low (length exchanges.now) }
     ensures low { IfOk result (λ place. low ≤ place) }
-    ensures next { IfOk result (λ place. IsBetween tracker.old.profile (Possible tracker.new.states) exchanges.now place (place + 1)) }
-    ensures passed { IfOk result (λ place. ArePassedTo tracker.old.profile exchanges.now low (Possible tracker.old.states) place (Possible tracker.new.states)) }
+    ensures next { IfOk result (λ place. IsBetween tracker.old.profile tracker.new.going (Possible tracker.new.states) exchanges.now place (place + 1)) }
+    ensures passed { IfOk result (λ place. ArePassedTo tracker.old.profile exchanges.now low tracker.old.going (Possible tracker.old.states) place tracker.new.going (Possible tracker.new.states)) }
     ensures profile { IfOk result (λ place. tracker.new.profile ≡ tracker.old.profile) }
 {
     let mut place = low;
@@ -133,9 +136,9 @@ fn moves_on(
 ) -> Result<bool, AllocError>
     requires low { low ≤ place }
     requires place { place ≤ length exchanges.now }
-    ensures contradict { IfOk result (λ b. b ≡ true → ¬ HasBelievingFromPlace tracker.old.profile (Possible tracker.old.states) low (nat_le place) exchanges.now) }
-    ensures passed { IfOk result (λ b. b ≡ true → ArePassedTo tracker.old.profile exchanges.now low (Possible tracker.old.states) place (Possible tracker.new.states)) }
-    ensures run { IfOk result (λ b. b ≡ false → HasBelievingFromPlace tracker.old.profile (Possible tracker.old.states) low (nat_le place) exchanges.now) }
+    ensures contradict { IfOk result (λ b. b ≡ true → ¬ HasBelievingFromPlace tracker.old.profile tracker.old.going (Possible tracker.old.states) low (nat_le place) exchanges.now) }
+    ensures passed { IfOk result (λ b. b ≡ true → ArePassedTo tracker.old.profile exchanges.now low tracker.old.going (Possible tracker.old.states) place tracker.new.going (Possible tracker.new.states)) }
+    ensures run { IfOk result (λ b. b ≡ false → HasBelievingFromPlace tracker.old.profile tracker.old.going (Possible tracker.old.states) low (nat_le place) exchanges.now) }
     ensures unchanged { IfOk result (λ b. b ≡ false → tracker.new ≡ tracker.old) }
     ensures profile { IfOk result (λ b. tracker.new.profile ≡ tracker.old.profile) }
 {

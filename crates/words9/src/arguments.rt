@@ -59,7 +59,7 @@ const DECK: Argument = Argument::Value {
     id: "deck",
     long: "deck",
     value: "FILE",
-    help: "A sheet of what this deck does of its own, as TOML: what commands are called, which replies they take, what they make it forget, and through which modes it passes",
+    help: "A sheet of what this deck does of its own, as TOML: what commands are called, which replies they take, what they make it forget, through which modes it passes, and what it does by itself",
 };
 
 /// The option that goes on after a break.

@@ -42,7 +42,7 @@ SaysWhy profile at b paired es end_us (WhyNo.Contradiction number exchanges plac
 abbrev pub IsTextOf : {R : Type 0} → View → Profile → Feed R → List Exchange → Option ℕ → Turn → List ℕ → Type 0
 IsTextOf (View.Explain detail) profile j es end_us Turn.Exchange text =
     (e : Exchange) × (j.follower.pairer.exchange ≡ Some e) × (known : Knowledge) × IsKnowledge (Possible j.follower.tracker.states) known
-    × (text ≡ line_of_exchange detail profile j.rows.given e known)
+    × (text ≡ line_of_exchange detail profile j.rows.given e known j.follower.tracker.going)
 IsTextOf view profile j es end_us Turn.Exchange text = text ≡ []
 IsTextOf View.Why profile j es end_us (Turn.LateReply r) text =
     (why : WhyNo) × ((asked : List LineByte) → BeginsLate j.follower.pairer.rules asked r → (j.follower.pairer.tail ≡ asked) ⊎ (j.follower.pairer.tail ≡ asked ++ r ∷ [])

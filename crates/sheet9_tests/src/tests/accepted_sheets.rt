@@ -308,6 +308,7 @@ fn sheets_that_are_taken(rt: HostRuntime) -> Result<(), Fail> {
         assert!(rt; names(&deck, taken.names), "{:?}", taken.text);
         assert!(rt; passes(&deck, taken.adds), "{:?}", taken.text);
         assert!(rt; replies(&deck, taken.replies), "{:?}", taken.text);
+        assert!(rt; deck.acts.is_empty(), "{:?}", taken.text);
     }
     Ok(())
 }

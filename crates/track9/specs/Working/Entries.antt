@@ -42,6 +42,10 @@ abbrev pub set_entries : Bool → Entries → Entries
 set_entries true es = entries es.rate false es.times
 set_entries false es = entries es.rate es.may_clear set.empty
 
+-- the entries where one may have been lost
+abbrev pub lost_entries : Bool → Entries → Entries
+lost_entries lost es = entries es.rate (es.may_clear || lost) es.times
+
 -- nothing is listed
 abbrev pub is_nil : List ℕ → Bool
 is_nil [] = true

@@ -1,7 +1,8 @@
 -- How pairs of a goal and a shown mode change.
 use Rattle.std.specs.Prelude.{if◌then◌else◌, ◌∷◌}
-use Rattle.track9.specs.Working.Deck.{[], bit_of, Bool, both, Cued, Deck, either, Eject, FastForward, has, is_mode, is_some, Jog, List, Mode, modes, ModeSet, Option, Play, Rec, Rewind, shown_with}
-use Rattle.track9.specs.Working.Deck.{Shuttle, Stop, Var, way_of}
+use Rattle.track9.specs.Working.Deck.{[], bit_of, Bool, both, Cued, either, Eject, FastForward, has, is_mode, is_some, Jog, List, Mode, modes, ModeSet, Play, Rec, Rewind, shown_with}
+use Rattle.track9.specs.Working.Acting.{Acted, way_by}
+use Rattle.track9.specs.Working.Deck.{Shuttle, Stop, Var}
 
 -- the pairs that have these shown modes for each goal
 abbrev pub by_goal : (Mode → ModeSet) → List ModeSet
@@ -45,14 +46,14 @@ abbrev pub halted : List ModeSet → ModeSet → ModeSet
 halted p way = if some_pair p then ten_of (either (modes (bit_of Stop)) way) else modes 0
 
 -- the modes that a drift can show with the goal g
-abbrev pub drifted_with : Option Deck → List ModeSet → Mode → ModeSet
-drifted_with deck p g =
-    if is_mode g Stop then either (kept_goal (shown_with p g) (way_of deck g) g) (halted p (way_of deck Stop))
-    else kept_goal (shown_with p g) (way_of deck g) g
+abbrev pub drifted_with : Acted → List ModeSet → Mode → ModeSet
+drifted_with acted p g =
+    if is_mode g Stop then either (kept_goal (shown_with p g) (way_by acted g) g) (halted p (way_by acted Stop))
+    else kept_goal (shown_with p g) (way_by acted g) g
 
 -- the pairs that a drift can reach
-abbrev pub drifted : Option Deck → List ModeSet → List ModeSet
-drifted deck p = by_goal (drifted_with deck p)
+abbrev pub drifted : Acted → List ModeSet → List ModeSet
+drifted acted p = by_goal (drifted_with acted p)
 
 -- the pairs with this goal in place of theirs
 abbrev pub gone_with : Mode → List ModeSet → Mode → ModeSet

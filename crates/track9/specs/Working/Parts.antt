@@ -1,9 +1,13 @@
 -- How the states with one value of local and one of panel change.
 use Rattle.std.specs.Prelude.{if◌then◌else◌, ◌&&◌, ◌≡◌}
 use Rattle.track9.specs.Working.Pattern.{is_as_wanted}
-use Rattle.track9.specs.Working.Deck.{Bool, Change, Deck, Entries, entries_of, InPart, List, Mode, ModeSet, None, Option, Part, RegAudioIn}
+use Rattle.track9.specs.Working.Deck.{Bool, Change, Entries, entries_of, InPart, List, Mode, ModeSet, None, Option, Part, RegAudioIn}
 use Rattle.track9.specs.Working.Deck.{RegAudioOut, RegIn, Register, Rate, RegistersSet, RegOut, Some, State, Status, ℕ}
-use Rattle.track9.specs.Working.Entries.{agreeing, all_entries, changed, no_entries, set_entries, some_entry, widened}
+use Rattle.deck9.specs.declared.going.Lost.{Lost}
+use Rattle.deck9.specs.Going.{may_lose}
+use Rattle.track9.specs.declared.part.Clears.{Clears}
+use Rattle.track9.specs.Working.Acting.{Acted}
+use Rattle.track9.specs.Working.Entries.{agreeing, all_entries, changed, lost_entries, no_entries, set_entries, some_entry, widened}
 use Rattle.track9.specs.Working.Pairs.{all_pairs, all_shown, drifted, gone, joined, masked, no_pairs, pairs_of, some_pair}
 
 -- no state, and every state
@@ -51,8 +55,29 @@ settled p = if part_remains p && some_entry p.ins && some_entry p.outs && some_e
 -- ---- what exchanges do
 
 -- a drift of the mechanics
-abbrev pub drifted_part : Option Deck → Part → Part
-drifted_part deck p = with_pairs (drifted deck p.pairs) p
+abbrev pub drifted_part : Acted → Part → Part
+drifted_part acted p = with_pairs (drifted acted p.pairs) p
+
+-- registers may have been lost
+abbrev pub lost_part : Lost → Part → Part
+lost_part lost p = record p {
+  ins = lost_entries (may_lose lost RegIn) p.ins;
+  outs = lost_entries (may_lose lost RegOut) p.outs;
+  ains = lost_entries (may_lose lost RegAudioIn) p.ains;
+  aouts = lost_entries (may_lose lost RegAudioOut) p.aouts;
+}
+
+-- whether each register may be Clear, and the part where each is so
+abbrev pub clears_of : Part → Clears
+clears_of p = record { ins = p.ins.may_clear; outs = p.outs.may_clear; ains = p.ains.may_clear; aouts = p.aouts.may_clear }
+
+abbrev pub with_clears : Clears → Part → Part
+with_clears clears p = record p {
+  ins = record p.ins { may_clear = clears.ins };
+  outs = record p.outs { may_clear = clears.outs };
+  ains = record p.ains { may_clear = clears.ains };
+  aouts = record p.aouts { may_clear = clears.aouts };
+}
 
 -- the deck is commanded to this mode, or leaves it where it may
 abbrev pub gone_pairs : Bool → Mode → List ModeSet → List ModeSet

@@ -1,6 +1,10 @@
 -- Which states an effect may have led from: a pattern of fields, each fixed or free.
 use Rattle.std.specs.Prelude.{if◌then◌else◌, nat_lt, ◌==◌, ◌≡◌, ◌⊎◌}
-use Rattle.track9.specs.Working.Deck.{Pattern, At, bit_of, Bool, both, Change, Clear, Command, day, Deck, Does, Drift, Effect, effect_of, Entry, false, Forgotten, Hands, has, has_pair, is_some, IsState, KeepsRest}
+use Rattle.deck9.specs.declared.going.Going.{Going}
+use Rattle.deck9.specs.declared.going.Lost.{Lost}
+use Rattle.deck9.specs.Going.{may_lose}
+use Rattle.track9.specs.Working.Acting.{Acted}
+use Rattle.track9.specs.Working.Deck.{Pattern, At, bit_of, Bool, both, Change, Clear, Command, day, Does, Drift, Effect, effect_of, Entry, false, Forgotten, Hands, has, has_pair, is_some, IsState, KeepsRest}
 use Rattle.track9.specs.Working.Deck.{List, may_ignore, Mode, modes, ModeSet, moved_entry, Next, next_frame, None, Option, option_map, Pair, PairReaches, Prev, prev_frame, Profile, Rate}
 use Rattle.track9.specs.Working.Deck.{Recall, RegAudioIn, RegAudioOut, RegIn, Register, RegOut, Reset, SetAt, SetSomewhere, Some, State, true}
 use Rattle.deck9.specs.declared.deck.Forgotten.TheVariants as forgotten
@@ -18,6 +22,12 @@ same_fact false false = true
 abbrev pub is_as_wanted : Option Bool → Bool → Bool
 is_as_wanted None fact = true
 is_as_wanted (Some wanted) fact = same_fact fact wanted
+
+-- what a register held before a drift that leads to what is wanted of it: anything, where clear is wanted and it may have been lost
+abbrev pub wanted_from : Lost → Register → Option Entry → Option Entry
+wanted_from lost r (Some Clear) = if may_lose lost r then None else Some Clear
+wanted_from lost r (Some (At time)) = Some (At time)
+wanted_from lost r None = None
 
 -- the entry of a register that is wanted
 abbrev pub wanted_of : Register → Pattern → Option Entry
@@ -128,26 +138,26 @@ abbrev pub IsIgnored : Command → Pattern → Type 0
 IsIgnored c a = (may_ignore c ≡ true) × Is a.local true
 
 -- a drift, and then the command's effect or nothing, lead from the state to one of those that are wanted
-abbrev pub ComesTo : Profile → Command → Pattern → State → Type 0
-ComesTo p c a s = (d t : State) × Drift p s d × IsState p.rate t × DoesOrIgnores p c d t × Fits a t
+abbrev pub ComesTo : Profile → Going → Command → Pattern → State → Type 0
+ComesTo p on c a s = (d t : State) × Drift p on s d × IsState p.rate t × DoesOrIgnores p c d t × Fits a t
 
 -- ---- a drift before
 
 -- a drift leads from the state to one of those that are wanted
-abbrev pub LeadsTo : Profile → Pattern → State → Type 0
-LeadsTo p a s = (d : State) × Drift p s d × Fits a d
+abbrev pub LeadsTo : Profile → Going → Pattern → State → Type 0
+LeadsTo p on a s = (d : State) × Drift p on s d × Fits a d
 
 -- a drift of the mechanics does
-abbrev pub RunsTo : Option Deck → Pattern → State → Type 0
-RunsTo deck a s = (d : State) × KeepsRest s d × PairReaches deck s.goal s.shown d.goal d.shown × Fits a d
+abbrev pub RunsTo : Acted → Pattern → State → Type 0
+RunsTo acted a s = (d : State) × KeepsRest acted.on s d × PairReaches acted.deck acted.on s.goal s.shown d.goal d.shown × Fits a d
 
 -- a state of the day is wanted
 abbrev pub IsPattern : Rate → Pattern → Type 0
 IsPattern rate a = (d : State) × IsState rate d × Fits a d
 
 -- a pair from which a drift of the mechanics reaches one of these goals with one of these modes shown
-abbrev pub PairRunsTo : Option Deck → ModeSet → ModeSet → Mode → Mode → Type 0
-PairRunsTo deck goals shown f n = (g m : Mode) × (has goals.0 g ≡ true) × (has shown.0 m ≡ true) × PairReaches deck f n g m
+abbrev pub PairRunsTo : Acted → ModeSet → ModeSet → Mode → Mode → Type 0
+PairRunsTo acted goals shown f n = (g m : Mode) × (has goals.0 g ≡ true) × (has shown.0 m ≡ true) × PairReaches acted.deck acted.on f n g m
 
 -- the pair is one of these
 abbrev pub IsPairOf : List ModeSet → Pair → Type 0

@@ -4,13 +4,16 @@ use Rattle.track9.specs.Working.Deck.{AreReached, begin_count, BelowDay, Bool, C
 use Rattle.track9.specs.Working.Deck.{in_local, InPart, Mode, ModeSet, None, Option, Part, Possible, Presets, Profile, Rate}
 use Rattle.track9.specs.Working.Deck.{Register, Some, State, States, Status, true, Halves, ℕ}
 use Rattle.track9.specs.Working.Deck.{Forgets, Forgotten}
+use Rattle.deck9.specs.declared.going.Going.{Going}
+use Rattle.deck9.specs.declared.going.Lost.{Lost}
+use Rattle.track9.specs.Working.Acting.{Acted, quiet}
 use Rattle.deck9.specs.declared.deck.Forgotten.TheVariants as forgotten
 use Rattle.deck9.specs.declared.state.Hands.TheVariants as hands
 use Rattle.track9.specs.Working.Deed.{Acts, counted, counts_after, DoesOrStays}
 use Rattle.track9.specs.declared.deed.Deed.{Deed}
 use Rattle.track9.specs.Working.Entries.{agreeing}
 use Rattle.track9.specs.Working.Pairs.{all_pairs}
-use Rattle.track9.specs.Working.Parts.{Whole, all_states, aside, changed_entries, changed_part, drifted_part, forgotten_part, gone_part, kept_or_gone_part, part_remains, no_states, put_settled, part_rate, status_part, where_remains, with_pairs}
+use Rattle.track9.specs.Working.Parts.{lost_part, Whole, all_states, aside, changed_entries, changed_part, drifted_part, forgotten_part, gone_part, kept_or_gone_part, part_remains, no_states, put_settled, part_rate, status_part, where_remains, with_pairs}
 
 -- ---- the states with one value of the panel
 
@@ -48,8 +51,16 @@ abbrev pub map_halves : (Bool → Part → Part) → Halves → Halves
 map_halves f h = record { remote = f false h.remote; local = f true h.local }
 
 -- a drift of the mechanics
-abbrev pub halves_drifted : Option Deck → Halves → Halves
-halves_drifted deck h = map_halves (λ local. drifted_part deck) h
+abbrev pub halves_drifted : Acted → Halves → Halves
+halves_drifted acted h = map_halves (λ local. drifted_part acted) h
+
+-- registers may have been lost
+abbrev pub halves_lost : Lost → Halves → Halves
+halves_lost lost h = map_halves (λ local. where_remains (lost_part lost)) h
+
+-- a drift, with what may be lost
+abbrev pub halves_moved : Acted → Halves → Halves
+halves_moved acted h = halves_drifted acted (halves_lost acted.on.lost h)
 
 -- the deck is commanded to this mode, or leaves it where it may
 abbrev pub halves_gone : Bool → Mode → Halves → Halves
@@ -107,12 +118,16 @@ abbrev pub HasEffect : Option Deck → Rate → Bool → Effect → Halves → H
 HasEffect deck rate may_stay e h g = LeadsOn rate (DoesOrStays (untouched deck rate) may_stay e) (counted e) h g
 
 -- a drift, and then a step
-abbrev pub DriftsAndGoes : (Profile → State → State → Type 0) → Profile → State → State → Type 0
-DriftsAndGoes Goes p s t = (d : State) × Drift p s d × Goes p d t
+abbrev pub DriftsAndGoes : (Profile → State → State → Type 0) → Profile → Going → State → State → Type 0
+DriftsAndGoes Goes p on s t = (d : State) × Drift p on s d × Goes p d t
 
 -- the states after a drift and a deed, where nobody touches the panel
-abbrev pub Taken : Option Deck → Rate → Deed → Halves → Halves → Type 0
-Taken deck rate d h g = LeadsOn rate (DriftsAndGoes (Acts d) (untouched deck rate)) (counts_after d) h g
+abbrev pub Taken : Acted → Rate → Deed → Halves → Halves → Type 0
+Taken acted rate d h g = LeadsOn rate (DriftsAndGoes (Acts d) (untouched acted.deck rate) acted.on) (counts_after d) h g
+
+-- the same where no register is lost
+abbrev pub TakenQuietly : Acted → Rate → Deed → Halves → Halves → Type 0
+TakenQuietly acted rate d h g = LeadsOn rate (DriftsAndGoes (Acts d) (untouched acted.deck rate) (quiet acted.on)) (counts_after d) h g
 
 -- ---- all states
 
@@ -174,25 +189,25 @@ abbrev pub first_states : Rate → Hands → States
 first_states rate h = record { off = all_or_none rate true; on = first_on rate h }
 
 -- the states after a drift, put together whatever the panel: where it may have been on, a hand may have done anything
-abbrev pub either_panel : Option Deck → States → Halves
-either_panel deck v = if remains_with_panel_on v then all_or_none (states_rate v) true else halves_drifted deck v.off
+abbrev pub either_panel : Acted → States → Halves
+either_panel acted v = if remains_with_panel_on v then all_or_none (states_rate v) true else halves_moved acted v.off
 
 -- the panel is switched on or off, after a drift
 abbrev pub switched : Rate → Bool → Halves → States
 switched rate true h = record { off = all_or_none rate false; on = Some h }
 switched rate false h = record { off = h; on = Some (all_or_none rate false) }
 
-abbrev pub after_panel : Option Deck → Bool → States → States
-after_panel deck on v = switched (states_rate v) on (either_panel deck v)
+abbrev pub after_panel : Acted → Bool → States → States
+after_panel acted on v = switched (states_rate v) on (either_panel acted v)
 
 -- the states after a drift
-abbrev pub all_drifted : Option Deck → States → States
-all_drifted deck v = record { off = halves_drifted deck v.off; on = Some (all_or_none (states_rate v) (remains_with_panel_on v)) }
+abbrev pub all_drifted : Acted → States → States
+all_drifted acted v = record { off = halves_moved acted v.off; on = Some (all_or_none (states_rate v) (remains_with_panel_on v)) }
 
 -- the panel is switched on or off, after a drift, or stays: what it may be switched to has all states, and the rest is as it was
-abbrev pub panel_passed : Option Deck → Bool → States → States
-panel_passed deck true v = record (all_drifted deck v) { on = Some (either_panel deck v) }
-panel_passed deck false v = record (all_drifted deck v) { off = either_panel deck v }
+abbrev pub panel_passed : Acted → Bool → States → States
+panel_passed acted true v = record (all_drifted acted v) { on = Some (either_panel acted v) }
+panel_passed acted false v = record (all_drifted acted v) { off = either_panel acted v }
 
 -- what holds inside a tracker
 pub record AreTracked (n : Presets) (v : States) : Type 0 where
@@ -207,8 +222,8 @@ pub record AllLeadOn (p : Profile) (Goes : State → State → Type 0) (count : 
   pub few : (n : Presets) → AreFew n v → AreFew (count n) w
 
 -- the states after a drift and a deed
-abbrev pub Follows : Profile → Deed → States → States → Type 0
-Follows p d v w = AllLeadOn p (DriftsAndGoes (Acts d) p) (counts_after d) v w
+abbrev pub Follows : Profile → Going → Deed → States → States → Type 0
+Follows p on d v w = AllLeadOn p (DriftsAndGoes (Acts d) p on) (counts_after d) v w
 
 -- the states after something is forgotten, whatever deck it is
 abbrev pub AreForgotten : Forgotten → States → States → Type 0

@@ -7,30 +7,33 @@ ghost use Rattle.std.specs.Prelude.{◌≡◌, IfNone, IfSome, Some, false, true
 ghost use Rattle.deck9.specs.Drift.{Drift};
 ghost use Rattle.deck9.specs.Step.{Goes};
 ghost use Rattle.track9.specs.Tracker.{Possible};
-ghost use Rattle.track9.specs.Working.Pattern.{ComesTo, Is, IsIgnored, IsPattern, LeadsTo, RunsTo};
+ghost use Rattle.track9.specs.Working.Pattern.{ComesTo, Is, IsIgnored, IsPattern, LeadsTo, RunsTo, wanted_from};
+ghost use Rattle.track9.specs.Tracker.{Allows, entries_of};
+ghost use Rattle.deck9.specs.declared.state.Entry.{Entry as AEntry};
 ghost use Rattle.track9.specs.Working.Parts.{HasState};
 ghost use Rattle.track9.specs.Working.States.{AreWhole, InHalves, remains_with_panel_on, halves_of, profile_of, states_rate};
 ghost use Rattle.deck9.specs.declared.state.State.{State as AState};
 
+use crate::acting::Acting;
 use crate::halves::Halves;
 use crate::part::Part;
 use crate::pattern::{Pattern, is_wanted};
 use crate::states::States;
 use block9::{Command, Exchange};
-use deck9::{DeckRef, Register, State, may_ignore};
+use deck9::{Entry, Lost, Register, State, may_ignore};
 use sets25::TimeSet;
 
 impl<S: TimeSet> States<S> {
     /// A state from which the exchange leads to the target: None exactly where there is none. Takes no memory.
     pub(crate) fn before_exchange(
         &self,
-        deck: &DeckRef,
+        acting: &Acting,
         exchange: &Exchange,
         target: &State,
     ) -> Option<State>
         requires { AreWhole (states_rate self.now) self.now }
-        ensures some { IfSome result (λ s. Possible self.now s × Goes (profile_of deck.now self.now) exchange.now s target.now) }
-        ensures none { IfNone result (¬ ((s : AState) × Possible self.now s × Goes (profile_of deck.now self.now) exchange.now s target.now)) }
+        ensures some { IfSome result (λ s. Possible self.now s × Goes (profile_of acting.now.deck self.now) acting.now.on exchange.now s target.now) }
+        ensures none { IfNone result (¬ ((s : AState) × Possible self.now s × Goes (profile_of acting.now.deck self.now) acting.now.on exchange.now s target.now)) }
     {
         self.below_day();
         if !target.is_of(self.rate()) {
@@ -38,69 +41,69 @@ impl<S: TimeSet> States<S> {
         }
         let mut wanted = Pattern::just(target);
         if exchange.reply.is_nak() {
-            return self.origin(deck, &wanted);
+            return self.origin(acting, &wanted);
         }
         if !target.shows(self.rate(), &exchange.command, &exchange.reply) {
             return None;
         }
-        wanted.forget(self.hands(), deck.forgotten_with(exchange));
-        self.before_step(deck, &exchange.command, &wanted)
+        wanted.forget(self.hands(), acting.deck.forgotten_with(exchange));
+        self.before_step(acting, &exchange.command, &wanted)
     }
 
     /// A state from which a drift, and then the command's effect or nothing, lead to one of those that are wanted.
-    fn before_step(&self, deck: &DeckRef, command: &Command, wanted: &Pattern) -> Option<State>
+    fn before_step(&self, acting: &Acting, command: &Command, wanted: &Pattern) -> Option<State>
         requires whole { AreWhole (states_rate self.now) self.now }
         requires wanted { IsPattern (states_rate self.now) wanted.now }
-        ensures some { IfSome result (λ s. Possible self.now s × ComesTo (profile_of deck.now self.now) command.now wanted.now s) }
-        ensures none { IfNone result (¬ ((s : AState) × Possible self.now s × ComesTo (profile_of deck.now self.now) command.now wanted.now s)) }
+        ensures some { IfSome result (λ s. Possible self.now s × ComesTo (profile_of acting.now.deck self.now) acting.now.on command.now wanted.now s) }
+        ensures none { IfNone result (¬ ((s : AState) × Possible self.now s × ComesTo (profile_of acting.now.deck self.now) acting.now.on command.now wanted.now s)) }
     {
         self.below_day();
-        if let Some(state) = self.ignored_origin(deck, command, wanted) {
+        if let Some(state) = self.ignored_origin(acting, command, wanted) {
             return Some(state);
         }
-        let before = wanted.before(self.rate(), self.hands(), &deck.effect(command))?;
-        self.origin(deck, &before)
+        let before = wanted.before(self.rate(), self.hands(), &acting.deck.effect(command))?;
+        self.origin(acting, &before)
     }
 
     /// Where a deck in LOCAL may ignore the command: a state from which a drift leads to a wanted one that is in LOCAL.
-    fn ignored_origin(&self, deck: &DeckRef, command: &Command, wanted: &Pattern) -> Option<State>
+    fn ignored_origin(&self, acting: &Acting, command: &Command, wanted: &Pattern) -> Option<State>
         requires whole { AreWhole (states_rate self.now) self.now }
         requires wanted { IsPattern (states_rate self.now) wanted.now }
-        ensures some { IfSome result (λ s. Possible self.now s × IsIgnored command.now wanted.now × LeadsTo (profile_of deck.now self.now) (record wanted.now { local = Some true }) s) }
-        ensures none { IfNone result (¬ ((s : AState) × Possible self.now s × IsIgnored command.now wanted.now × LeadsTo (profile_of deck.now self.now) (record wanted.now { local = Some true }) s)) }
+        ensures some { IfSome result (λ s. Possible self.now s × IsIgnored command.now wanted.now × LeadsTo (profile_of acting.now.deck self.now) acting.now.on (record wanted.now { local = Some true }) s) }
+        ensures none { IfNone result (¬ ((s : AState) × Possible self.now s × IsIgnored command.now wanted.now × LeadsTo (profile_of acting.now.deck self.now) acting.now.on (record wanted.now { local = Some true }) s)) }
     {
         let is_ignored = may_ignore(command);
         let is_local = is_wanted(wanted.local, true);
         if !is_ignored || !is_local {
             return None;
         }
-        self.origin(deck, &wanted.in_local())
+        self.origin(acting, &wanted.in_local())
     }
 
     /// A state from which a drift leads to the target: None exactly where there is none. Takes no memory.
-    pub(crate) fn before_drift(&self, deck: &DeckRef, target: &State) -> Option<State>
+    pub(crate) fn before_drift(&self, acting: &Acting, target: &State) -> Option<State>
         requires { AreWhole (states_rate self.now) self.now }
-        ensures some { IfSome result (λ s. Possible self.now s × Drift (profile_of deck.now self.now) s target.now) }
-        ensures none { IfNone result (¬ ((s : AState) × Possible self.now s × Drift (profile_of deck.now self.now) s target.now)) }
+        ensures some { IfSome result (λ s. Possible self.now s × Drift (profile_of acting.now.deck self.now) acting.now.on s target.now) }
+        ensures none { IfNone result (¬ ((s : AState) × Possible self.now s × Drift (profile_of acting.now.deck self.now) acting.now.on s target.now)) }
     {
         self.below_day();
         if !target.is_of(self.rate()) {
             return None;
         }
-        self.origin(deck, &Pattern::just(target))
+        self.origin(acting, &Pattern::just(target))
     }
 
     /// A state from which a drift leads to one of those that are wanted: None exactly where there is none.
-    fn origin(&self, deck: &DeckRef, wanted: &Pattern) -> Option<State>
+    fn origin(&self, acting: &Acting, wanted: &Pattern) -> Option<State>
         requires whole { AreWhole (states_rate self.now) self.now }
         requires wanted { IsPattern (states_rate self.now) wanted.now }
-        ensures some { IfSome result (λ s. Possible self.now s × LeadsTo (profile_of deck.now self.now) wanted.now s) }
-        ensures none { IfNone result (¬ ((s : AState) × Possible self.now s × LeadsTo (profile_of deck.now self.now) wanted.now s)) }
+        ensures some { IfSome result (λ s. Possible self.now s × LeadsTo (profile_of acting.now.deck self.now) acting.now.on wanted.now s) }
+        ensures none { IfNone result (¬ ((s : AState) × Possible self.now s × LeadsTo (profile_of acting.now.deck self.now) acting.now.on wanted.now s)) }
     {
         if let Some(state) = self.panel_origin(wanted) {
             return Some(state);
         }
-        self.off.origin(deck, wanted)
+        self.off.origin(acting, wanted)
     }
 
     /// Some state with the panel on, where one with the panel on is wanted: a hand makes any such state of it.
@@ -120,14 +123,14 @@ impl<S: TimeSet> States<S> {
 impl<S: TimeSet> Halves<S> {
     /// A state with the panel off from which a drift of the mechanics leads to one of those that are wanted: None exactly
     /// where there is none.
-    fn origin(&self, deck: &DeckRef, wanted: &Pattern) -> Option<State>
-        ensures some { IfSome result (λ s. InHalves false self.now s × RunsTo deck.now wanted.now s) }
-        ensures none { IfNone result (¬ ((s : AState) × InHalves false self.now s × RunsTo deck.now wanted.now s)) }
+    fn origin(&self, acting: &Acting, wanted: &Pattern) -> Option<State>
+        ensures some { IfSome result (λ s. InHalves false self.now s × RunsTo acting.now wanted.now s) }
+        ensures none { IfNone result (¬ ((s : AState) × InHalves false self.now s × RunsTo acting.now wanted.now s)) }
     {
-        if let Some(state) = origin_in(&self.remote, deck, wanted, false) {
+        if let Some(state) = origin_in(&self.remote, acting, wanted, false) {
             return Some(state);
         }
-        origin_in(&self.local, deck, wanted, true)
+        origin_in(&self.local, acting, wanted, true)
     }
 }
 
@@ -135,27 +138,46 @@ impl<S: TimeSet> Halves<S> {
 /// those that are wanted: None exactly where there is none.
 fn origin_in<S: TimeSet>(
     part: &Part<S>,
-    deck: &DeckRef,
+    acting: &Acting,
     wanted: &Pattern,
     local: bool,
 ) -> Option<State>
-    ensures some { IfSome result (λ s. HasState part.now local false s × RunsTo deck.now wanted.now s) }
-    ensures none { IfNone result (¬ ((s : AState) × HasState part.now local false s × RunsTo deck.now wanted.now s)) }
+    ensures some { IfSome result (λ s. HasState part.now local false s × RunsTo acting.now wanted.now s) }
+    ensures none { IfNone result (¬ ((s : AState) × HasState part.now local false s × RunsTo acting.now wanted.now s)) }
 {
     let fits_local = is_wanted(wanted.local, local);
     let fits_panel = is_wanted(wanted.panel, false);
     if !fits_local || !fits_panel {
         return None;
     }
-    let pair = part.pairs().origin(deck, wanted.goals, wanted.shown)?;
+    let lost = acting.going().lost;
+    let pair = part.pairs().origin(acting, wanted.goals, wanted.shown)?;
     Some(State {
         goal: pair.goal,
         shown: pair.shown,
-        ins: part.entries(Register::RegIn).pick(&wanted.ins)?,
-        outs: part.entries(Register::RegOut).pick(&wanted.outs)?,
-        ains: part.entries(Register::RegAudioIn).pick(&wanted.ains)?,
-        aouts: part.entries(Register::RegAudioOut).pick(&wanted.aouts)?,
+        ins: entry_from(part, lost, Register::RegIn, &wanted.ins)?,
+        outs: entry_from(part, lost, Register::RegOut, &wanted.outs)?,
+        ains: entry_from(part, lost, Register::RegAudioIn, &wanted.ains)?,
+        aouts: entry_from(part, lost, Register::RegAudioOut, &wanted.aouts)?,
         local,
         panel: false,
     })
+}
+
+/// What a register of a part holds before a drift that leads to what is wanted of it: None exactly where there is no such entry.
+fn entry_from<S: TimeSet>(
+    part: &Part<S>,
+    lost: Lost,
+    register: Register,
+    wanted: &Option<Entry>,
+) -> Option<Entry>
+    ensures some { IfSome result (λ e. Allows (entries_of register part.now) e × Is (wanted_from lost register wanted.now) e) }
+    ensures none { IfNone result (¬ ((e : AEntry) × Allows (entries_of register part.now) e × Is (wanted_from lost register wanted.now) e)) }
+{
+    let is_lost = lost.has(register);
+    let before = match wanted {
+        Some(Entry::Clear) if is_lost => None,
+        _ => *wanted,
+    };
+    part.entries(register).pick(&before)
 }

@@ -4,23 +4,35 @@
 //! are always Clear. The exchanges have those times and change those registers alone, and shift none that may be known to be
 //! at the edge of the day. So both give the same answers: a register that may be Set at any time has the three.
 
+mod back;
 mod edges;
+mod joined;
 mod listed;
 mod sheets;
 
 use super::drawn::{Draw, command, moved, reply};
 use super::plain_deck::{Day, NO_SHEET, Sheet};
-use super::{known, observe, same};
+use super::{complete, known, named_block, observe, same};
+use back::{Way, go_back};
 use block9::{Block, Command};
 use deck9::{Hands, Knowledge, KnownEntry, Profile, Register};
 use edges::Edges;
 use listed::ListedDeck;
 use sets25::SpanSet;
 use std::alloc::{AllocError, Global};
+use std::fmt::Debug;
 use std::process::Abort;
 use std::test::Fail;
 use tc25::TimeCode;
 use track9::Tracker;
+
+/// What both decks take next.
+enum Turn {
+    Exchange,
+    /// An exchange, of which the reply is not believed.
+    Unknown,
+    Drift,
+}
 
 /// What is drawn, and the registers' places in the day that follow from it.
 #[derive(Drop)]
@@ -57,10 +69,20 @@ impl<'a> Course<'a> {
         }
     }
 
-    /// A command of any kind. Where the deck's sheet names some, every third is not listed and may be named, and so may some that
-    /// are.
+    fn turn(&mut self) -> Turn {
+        match self.draw.below(16) {
+            0 => Turn::Drift,
+            1 => Turn::Unknown,
+            _ => Turn::Exchange,
+        }
+    }
+
+    /// A command of any kind. Where the deck does something by itself, every second begins it, ends it, or may show it. Where its sheet
+    /// names some else, every third is not listed and may be named, and so may some that are.
     fn any_command(&mut self) -> Command {
-        if !self.sheet.named.is_empty() && self.draw.one_in(3) {
+        if self.sheet.acts() && self.draw.one_in(2) {
+            sheets::acting(&mut self.draw)
+        } else if !self.sheet.named.is_empty() && self.draw.one_in(3) {
             sheets::unlisted(&mut self.draw)
         } else if self.sheet.names_listed() && self.draw.one_in(3) {
             let time = self.draw.time(&self.times);
@@ -88,7 +110,7 @@ impl<'a> Course<'a> {
             times: &self.times,
             is_round: true,
         };
-        let state = moved(&mut self.draw, &day, &self.sheet, &state);
+        let state = moved(&mut self.draw, &day, &self.sheet, deck.going(), &state);
         reply(rt, &mut self.draw, &state, command, &self.times)
     }
 }
@@ -111,39 +133,77 @@ fn known_of(rt: &impl Abort, tracker: &Tracker<SpanSet>, registers: &[Register])
     knowledge
 }
 
-/// Both take an exchange and answer the same: whether a state remains, which modes may be shown, and what is known.
+/// Both answer the same: whether a state remains, which modes may be shown, and what is known.
+fn agree_now<C: Debug + Drop + Copy>(
+    rt: &impl Abort,
+    deck: &ListedDeck,
+    tracker: &Tracker<SpanSet>,
+    registers: &[Register],
+    remains: bool,
+    case: C,
+) {
+    let listed = deck.knowledge();
+    let answers = (tracker.remains(), listed.is_some());
+    same(rt, answers, (remains, remains), case);
+    same(rt, tracker.shown(), deck.shown(), case);
+    if let Some(listed) = listed {
+        same(rt, known_of(rt, tracker, registers), listed, case);
+    }
+}
+
+/// Both take an exchange and answer the same, now and then on the way back too. Answers whether a state remains.
 fn agree(
     rt: &impl Abort,
     deck: &mut ListedDeck,
     tracker: &mut Tracker<SpanSet>,
-    registers: &[Register],
-    command: &Command,
-    reply: &Block,
+    course: &mut Course,
 ) -> Result<bool, AllocError> {
-    let remains = observe(rt, tracker, command, reply)?;
-    deck.observe(command, reply)?;
-    let listed = deck.knowledge();
-    let answers = (tracker.remains(), listed.is_some());
-    same(
-        rt,
-        answers,
-        (remains, remains),
-        (command.name(), reply.head()),
-    );
-    same(
-        rt,
-        tracker.shown(),
-        deck.shown(),
-        (command.name(), reply.head()),
-    );
-    if let Some(listed) = listed {
-        let tracked = known_of(rt, tracker, registers);
-        same(rt, tracked, listed, (command.name(), reply.head()));
+    let command = course.command();
+    let reply = course.reply(rt, deck, &command);
+    if course.draw.one_in(8) {
+        go_back(rt, deck, tracker, course, Way::Exchange(&command, &reply))?;
     }
+    let remains = observe(rt, tracker, &command, &reply)?;
+    deck.observe(&command, &reply)?;
+    let case = (command.name(), reply.head());
+    agree_now(rt, deck, tracker, course.registers, remains, case);
+    course.edges.follow(&course.sheet, &command, &reply);
     Ok(remains)
 }
 
-/// Both take the exchanges of a course, until no state remains. Answers how many left one.
+/// The same of an exchange, of which the reply is not believed.
+fn agree_on_unknown(
+    rt: &impl Abort,
+    deck: &mut ListedDeck,
+    tracker: &mut Tracker<SpanSet>,
+    course: &mut Course,
+) -> Result<bool, AllocError> {
+    let command = course.command();
+    let reply = course.reply(rt, deck, &command);
+    let exchange = complete(&command, named_block(rt, &command), &reply);
+    tracker.take_unknown(&exchange)?;
+    deck.take_unknown(&command)?;
+    let case = (command.name(), reply.head());
+    agree_now(rt, deck, tracker, course.registers, true, case);
+    course.edges.follow_unknown(&course.sheet, &command);
+    Ok(true)
+}
+
+/// The same of a drift alone, and of the way back before it.
+fn agree_on_drift(
+    rt: &impl Abort,
+    deck: &mut ListedDeck,
+    tracker: &mut Tracker<SpanSet>,
+    course: &mut Course,
+) -> Result<bool, AllocError> {
+    go_back(rt, deck, tracker, course, Way::Drift)?;
+    tracker.drift()?;
+    deck.drift()?;
+    agree_now(rt, deck, tracker, course.registers, true, "a drift");
+    Ok(true)
+}
+
+/// Both take what is drawn of a course, until no state remains. Answers how many turns left one.
 fn agree_on(
     rt: &impl Abort,
     deck: &mut ListedDeck,
@@ -151,12 +211,14 @@ fn agree_on(
     course: &mut Course,
 ) -> Result<u32, AllocError> {
     for turn in 0..course.turns {
-        let command = course.command();
-        let reply = course.reply(rt, deck, &command);
-        if !agree(rt, deck, tracker, course.registers, &command, &reply)? {
+        let remains = match course.turn() {
+            Turn::Exchange => agree(rt, deck, tracker, course)?,
+            Turn::Unknown => agree_on_unknown(rt, deck, tracker, course)?,
+            Turn::Drift => agree_on_drift(rt, deck, tracker, course)?,
+        };
+        if !remains {
             return Ok(turn);
         }
-        course.edges.follow(&course.sheet, &command, &reply);
     }
     Ok(course.turns)
 }

@@ -1,6 +1,8 @@
 //! Exchanges that are drawn: commands of each kind, and replies that a deck in a given state may give.
 
-use super::plain_deck::{Day, MODES, PlainState, Sheet, Small, datum_of, done, sensed_by, time_of};
+use super::plain_deck::{
+    Day, MODES, PlainGoing, PlainState, Sheet, Small, datum_of, done, sensed_by, time_of,
+};
 use block9::{Block, Command};
 use deck9::Mode;
 use std::process::Abort;
@@ -149,12 +151,18 @@ pub(super) fn command(draw: &mut Draw, times: &[TimeCode]) -> Command {
     }
 }
 
-/// The state after up to three moves that are drawn.
-pub(super) fn moved(draw: &mut Draw, day: &Day, sheet: &Sheet, state: &PlainState) -> PlainState {
+/// The state after up to three moves that are drawn, where this may be going on.
+pub(super) fn moved(
+    draw: &mut Draw,
+    day: &Day,
+    sheet: &Sheet,
+    going: PlainGoing,
+    state: &PlainState,
+) -> PlainState {
     let mut moved = *state;
     for _ in 0..3 {
         let way = draw.way(sheet);
-        if let Some(after) = done(day, sheet, &moved, &Small::Move, way) {
+        if let Some(after) = done(day, sheet, &moved, &Small::Move(going), way) {
             moved = after;
         }
     }

@@ -291,6 +291,8 @@ fn judge_forgets<S: TimeSet>(
             named,
             goals: &[],
             ways: &[],
+            runs: &[],
+            loses: &[],
         },
     )?;
     judge_with::<S>(rt, alloc, &profile, before, last, Some(told))
@@ -305,6 +307,8 @@ fn judge_ways<S: TimeSet>(rt: &impl Abort, alloc: Global, row: &WaysRow) -> Resu
             named: &[],
             goals: &[],
             ways,
+            runs: &[],
+            loses: &[],
         },
     )?;
     judge_with::<S>(rt, alloc, &profile, before, last, told)

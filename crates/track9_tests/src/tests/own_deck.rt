@@ -1,7 +1,7 @@
 //! Profiles of decks that do things of their own, by plain sheets.
 
 use super::plain_deck::{LISTED_HEADS, MODES, Sheet};
-use deck9::{Deck, Forgotten, Hands, Mode, ModeSet, Profile};
+use deck9::{Deck, Forgotten, Going, Hands, Mode, ModeSet, Profile};
 use std::alloc::{AllocError, Global};
 use std::collections::BTreeMap;
 use tc25::Rate;
@@ -43,6 +43,22 @@ fn ways_of(further: &[(Mode, Mode)]) -> [ModeSet; 10] {
     ways
 }
 
+/// What it may do by itself after the commands that are named.
+fn acts_of(alloc: Global, sheet: &Sheet) -> Result<BTreeMap<u32, Going>, AllocError> {
+    let mut acts = BTreeMap::new(alloc);
+    for (head, mode) in sheet.runs {
+        let mut named = acts.get(head).copied().unwrap_or(Going::NOTHING);
+        named.modes = named.modes.or(ModeSet::just(*mode));
+        acts.insert(*head, named)?;
+    }
+    for (head, lost) in sheet.loses {
+        let mut named = acts.get(head).copied().unwrap_or(Going::NOTHING);
+        named.lost = *lost;
+        acts.insert(*head, named)?;
+    }
+    Ok(acts)
+}
+
 /// A deck of 25 frames a second that does of its own what a sheet says.
 pub(super) fn profile_of(
     alloc: Global,
@@ -52,6 +68,7 @@ pub(super) fn profile_of(
     let forgets = forgets_of(alloc, sheet, false)?;
     let also_forgets = forgets_of(alloc, sheet, true)?;
     let goals = goals_of(alloc, sheet.goals)?;
+    let acts = acts_of(alloc, sheet)?;
     Ok(Profile {
         rate: Rate::Fps25,
         hands,
@@ -59,6 +76,7 @@ pub(super) fn profile_of(
             forgets,
             goals,
             also_forgets,
+            acts,
             ways: ways_of(sheet.ways),
             names: BTreeMap::new(alloc),
             replies: BTreeMap::new(alloc),

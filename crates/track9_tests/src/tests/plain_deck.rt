@@ -5,6 +5,7 @@
 //! line, so that a rule that one misreads shows in the other.
 
 mod commands;
+mod going;
 mod replies;
 mod sheet;
 
@@ -12,6 +13,7 @@ pub(super) use commands::{
     FORGETTABLE, LISTED_HEADS, change_of, forgets, head_of, is_free_in_local, sensed_by, small_of,
 };
 use deck9::{Change, Mode, Register};
+pub(super) use going::{NOTHING, PlainGoing};
 pub(super) use replies::{datum_of, shows};
 pub(super) use sheet::{NO_SHEET, Sheet};
 use tc25::TimeCode;
@@ -76,7 +78,8 @@ impl<'a> Day<'a> {
 /// A small step of a deck: a move by itself, or a part of what a command does.
 #[derive(Clone, Copy)]
 pub(super) enum Small {
-    Move,
+    /// By itself, where this may be going on.
+    Move(PlainGoing),
     Nothing,
     Go(Mode),
     GoOrKeep(Mode),
@@ -126,8 +129,9 @@ fn count_ways(sheet: &Sheet, goal: Mode) -> usize {
         .saturating_add(sheet.count_ways(goal))
 }
 
-/// The state after a move of the mechanics: one to the goal, one to each mode on the way, and one to STOP.
-fn moved(sheet: &Sheet, state: &PlainState, way: usize) -> Option<PlainState> {
+/// The state after a move of a deck by itself: one to the goal, one to each mode on the way, those of what may be going on, and one
+/// to STOP.
+fn moved(sheet: &Sheet, going: &PlainGoing, state: &PlainState, way: usize) -> Option<PlainState> {
     let mut after = *state;
     let Some(place) = way.checked_sub(1) else {
         after.shown = state.goal;
@@ -137,9 +141,13 @@ fn moved(sheet: &Sheet, state: &PlainState, way: usize) -> Option<PlainState> {
         after.shown = mode;
         return Some(after);
     }
+    let further = place.saturating_sub(count_ways(sheet, state.goal));
+    if let Some(after) = going.moved(state, further) {
+        return Some(after);
+    }
     after.goal = Mode::Stop;
     after.shown = Mode::Stop;
-    if place == count_ways(sheet, state.goal) && state.shown == state.goal {
+    if further == going.count_moves() && state.shown == state.goal {
         Some(after)
     } else {
         None
@@ -191,7 +199,7 @@ pub(super) fn done(
 ) -> Option<PlainState> {
     let mut after = *state;
     match (*small, way) {
-        (Small::Move, _) => return moved(sheet, state, way),
+        (Small::Move(going), _) => return moved(sheet, &going, state, way),
         (Small::Nothing, 0) | (Small::GoOrKeep(_), 0) | (Small::GoAsNamed(_), 0) => {}
         (Small::GoAsNamed(head), _) => after.goal = sheet.goal_at(head, way.wrapping_sub(1))?,
         (Small::Go(goal), 0) | (Small::GoOrKeep(goal), 1) => after.goal = goal,

@@ -2,8 +2,8 @@
 
 use super::drawn::{Draw, command, moved, reply};
 use super::plain_deck::{
-    Day, FORGETTABLE, NO_SHEET, PlainState, REGISTERS, Small, done, forgets, is_free_in_local,
-    small_of,
+    Day, FORGETTABLE, NO_SHEET, NOTHING, PlainState, REGISTERS, Small, done, forgets,
+    is_free_in_local, small_of,
 };
 use super::{known, observe, same};
 use block9::{Block, Command, NakBits};
@@ -70,7 +70,7 @@ impl Run {
             times: &self.times,
             is_round: false,
         };
-        self.state = moved(&mut self.draw, &day, &NO_SHEET, &self.state);
+        self.state = moved(&mut self.draw, &day, &NO_SHEET, NOTHING, &self.state);
         let reply = reply(rt, &mut self.draw, &self.state, &command, &self.times);
         (command, reply)
     }

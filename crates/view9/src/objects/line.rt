@@ -4,11 +4,12 @@ ghost use Rattle.std.specs.Io.KnownBytes.{Appends};
 ghost use Rattle.view9.specs.Json.{IsObject};
 ghost use Rattle.view9.specs.Working.{AppendsMembers};
 
+use crate::by_itself::registers_of;
 use crate::field::Field;
 use crate::objects::told::{Told, text_in};
 use bitflags::Flags;
 use block9::{Command, Exchange, NakBits, Reason};
-use deck9::{Knowledge, Profile};
+use deck9::{Going, Knowledge, Profile};
 use json::Writer;
 use report9::{
     JudgeError, Totals, put_block, put_command, put_hex, put_reply, status_in, time_told, write_all,
@@ -156,6 +157,17 @@ impl<'a> Line<'a> {
     pub(super) fn put_fields(&mut self, profile: &Profile, known: &Knowledge, fields: &[Field]) {
         for field in fields {
             self.put(field.name(), Told::of(*field, known, profile.rate));
+        }
+    }
+
+    /// Puts what the deck may do by itself, where there is something.
+    pub(super) fn put_going(&mut self, going: Going) {
+        if going.modes.is_some() {
+            self.put("may_run", Told::Modes(going.modes));
+        }
+        let registers = registers_of(going.lost);
+        if !registers.is_empty() {
+            self.put("may_lose", Told::Fields(registers));
         }
     }
 

@@ -23,6 +23,8 @@ pub(super) enum Told<'a> {
     Time([u8; 11]),
     /// The names of modes, as a list.
     Modes(ModeSet),
+    /// The names of fields, as a list.
+    Fields(&'a [Field]),
     /// The names of the bits of a NAK that are set, as a list.
     Bits(NakBits),
     /// What a reply says of the deck by itself, as an object: nothing, where it carries no status data.
@@ -50,6 +52,7 @@ impl Told<'_> {
             Told::Text(text) => write_text(out, text_in(text.as_slice())),
             Told::Time(time) => write_text(out, text_in(time)),
             Told::Modes(modes) => write_modes(out, *modes),
+            Told::Fields(fields) => write_fields(out, fields),
             Told::Bits(nak) => write_bits(out, *nak),
             Told::Says(status) => write_says(out, status),
         }
@@ -90,6 +93,25 @@ fn write_mode_names(out: &mut Writer, modes: ModeSet) -> Result<(), AllocError>
 {
     for mode in &Mode::ALL {
         write_item(out, modes.has(*mode).then_some(mode.name()))?;
+    }
+    Ok(())
+}
+
+/// Writes the names of fields, as a list.
+fn write_fields(out: &mut Writer, fields: &[Field]) -> Result<(), AllocError>
+    ensures { OnOk result (AppendsValue 1 out.old out.new) }
+{
+    out.begin_array()?;
+    write_field_names(out, fields)?;
+    out.end_array()
+}
+
+/// Writes the name of each of these fields.
+fn write_field_names(out: &mut Writer, fields: &[Field]) -> Result<(), AllocError>
+    ensures { OnOk result (AppendsItems 0 out.old out.new) }
+{
+    for field in fields {
+        write_item(out, Some(field.name()))?;
     }
     Ok(())
 }

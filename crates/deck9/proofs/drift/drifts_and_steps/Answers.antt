@@ -1,17 +1,11 @@
-use Rattle.deck9.proofs.Words.{false≢true, inl, inr, PassesOne, Steps, Stop, subst, sym, ◌∙◌}
-use Rattle.deck9.proofs.DriftLemmas.{drift_from_five, five_from_drift}
+use Rattle.deck9.proofs.Words.{MovesAndSteps, subst, sym}
+use Rattle.deck9.proofs.LossLemmas.{drift_of, moves_of}
 use Rattle.deck9.proofs.drift.drifts_and_steps.Goals as goal
 
 pub returns : goal.returns
 returns c = (
-  λ is. drift_from_five c.args.profile.now c.args.exchange.now c.args.before.now c.args.after.now
-      (inr (inr (inr (inr (subst (λ s. PassesOne c.args.profile.now c.args.exchange.now s c.args.after.now) c.with_goal-stopped.ensures (c.passes_and_steps-2.ensures.0 is)))))),
-  λ drifts. elim (five_from_drift c.args.profile.now c.args.exchange.now c.args.before.now c.args.after.now drifts) [
-    | inl w ↦ absurd (false≢true (sym c.if-steps.false ∙ c.steps.ensures.1 w))
-    | inr (inl w) ↦ absurd (false≢true (sym c.if-shows_and_steps.false ∙ c.shows_and_steps.ensures.1 w))
-    | inr (inr (inl w)) ↦ absurd (false≢true (sym c.if-passes_and_steps.false ∙ c.passes_and_steps.ensures.1 w))
-    | inr (inr (inr (inl w))) ↦ absurd (false≢true (sym c.if-shows_and_steps-2.false ∙ c.shows_and_steps-2.ensures.1
-        (subst (λ s. Steps c.args.profile.now c.args.exchange.now (record s { shown = Stop }) c.args.after.now) (sym c.with_goal-stopped.ensures) w)))
-    | inr (inr (inr (inr w))) ↦ c.passes_and_steps-2.ensures.1 (subst (λ s. PassesOne c.args.profile.now c.args.exchange.now s c.args.after.now) (sym c.with_goal-stopped.ensures) w)
-  ],
+  λ is. drift_of c.args.profile.now c.args.going c.args.exchange.now c.args.before.now c.args.after.now
+      (subst (λ v. MovesAndSteps c.args.profile.now c.args.going c.args.exchange.now v c.args.after.now) c.with_losses-left.ensures (c.moves_and_steps.ensures.0 is)),
+  λ d. c.moves_and_steps.ensures.1 (subst (λ v. MovesAndSteps c.args.profile.now c.args.going c.args.exchange.now v c.args.after.now) (sym c.with_losses-left.ensures)
+      (moves_of c.args.profile.now c.args.going c.args.exchange.now c.args.before.now c.args.after.now d)),
 )

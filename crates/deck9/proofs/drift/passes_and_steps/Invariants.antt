@@ -3,4 +3,4 @@ use Rattle.deck9.proofs.drift.passes_and_steps.Given as goal
 
 -- no mode so far leads on
 abbrev pub invariant-loop-mode : goal.invariant-loop-mode
-invariant-loop-mode l = (m : Mode) → index_of m < l.mode-index → PassesTo l.profile l.exchange l.before l.after m → ⊥
+invariant-loop-mode l = (m : Mode) → index_of m < l.mode-index → PassesTo l.profile l.fn.going l.exchange l.before l.after m → ⊥

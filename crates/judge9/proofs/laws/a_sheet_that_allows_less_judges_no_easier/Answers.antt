@@ -6,11 +6,11 @@ use Rattle.judge9.proofs.Words.{counting, line_rules}
 use Rattle.judge9.proofs.LawLemmas.{no_with_more, yes_with_more}
 
 pub returns-clause-yes : goal.returns-clause-yes
-returns-clause-yes c = λ p less more past rows records exchanges tail forgets takes ways.
+returns-clause-yes c = λ p less more past rows records exchanges tail forgets takes ways acts.
     yes_with_more (record p { deck = less }) (record p { deck = more }) (cut_taking_more (line_rules (counting (record p { deck = less }))) (replies_of more) takes)
-    (no_more_runs p less more forgets ways) past rows records exchanges tail
+    (no_more_runs p less more forgets ways acts) past rows records exchanges tail
 
 pub returns-clause-no : goal.returns-clause-no
-returns-clause-no c = λ p less more past rows at other reason another forgets takes ways.
+returns-clause-no c = λ p less more past rows at other reason another forgets takes ways acts.
     no_with_more (record p { deck = less }) (record p { deck = more }) (cut_taking_more (line_rules (counting (record p { deck = less }))) (replies_of more) takes)
-    (no_more_runs p less more forgets ways) past rows at other reason another
+    (no_more_runs p less more forgets ways acts) past rows at other reason another

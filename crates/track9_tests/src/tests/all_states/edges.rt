@@ -82,12 +82,17 @@ impl Edges {
         if NakBits::of(reply).is_some() {
             return;
         }
-        if let Some((register, change)) = change_of(command) {
-            self.put(register, self.changed(register, &change));
-        }
         if let Some((_, register)) = sensed_by(command) {
             let place = reply.time().map(|time| self.place(time));
             self.put(register, place.map(|place| (place, place)));
+        }
+        self.follow_unknown(sheet, command);
+    }
+
+    /// Follows an exchange, of which the reply is not believed.
+    pub(super) fn follow_unknown(&mut self, sheet: &Sheet, command: &Command) {
+        if let Some((register, change)) = change_of(command) {
+            self.put(register, self.changed(register, &change));
         }
         let anything = Small::Change(Register::RegIn, Change::Recall);
         // What is forgotten of one register is forgotten of all, whether or not hands are allowed.

@@ -1,17 +1,18 @@
 //! A deck of which each state stands in a list, with whether it is possible.
 
+use super::joined::{joined_state, known_state};
 use crate::tests::drawn::Draw;
 use crate::tests::plain_deck::{
-    Day, FORGETTABLE, MODES, PlainState, Sheet, Small, done, forgets, is_free_in_local, shows,
-    small_of, time_of,
+    Day, FORGETTABLE, MODES, PlainGoing, PlainState, Sheet, Small, done, forgets, is_free_in_local,
+    shows, small_of, time_of,
 };
 use block9::{Block, Command, NakBits};
-use deck9::{Hands, Knowledge, Known, KnownEntry, ModeSet, Register};
+use deck9::{Hands, Knowledge, ModeSet, Register};
 use std::alloc::{AllocError, Global};
 use std::mem;
 use tc25::TimeCode;
 
-/// Every state of a deck with these registers whose day has three frames, and which of them are possible.
+/// Every state of a deck with these registers whose day has three frames, which of them are possible, and what may be going on.
 #[derive(Drop)]
 pub(super) struct ListedDeck<'a> {
     sheet: Sheet<'a>,
@@ -20,7 +21,16 @@ pub(super) struct ListedDeck<'a> {
     hands: Hands,
     states: Vec<PlainState>,
     possible: Vec<bool>,
+    going: PlainGoing,
     alloc: Global,
+}
+
+/// Who may leave a small step undone.
+#[derive(Clone, Copy, PartialEq)]
+enum Leaving {
+    Nobody,
+    InLocal,
+    Anybody,
 }
 
 /// How many states there are with two registers: two values of panel and of local, ten goals and shown modes, four entries
@@ -116,60 +126,6 @@ fn first_possible(
     Ok(possible)
 }
 
-/// What is known of a field, where a further state has this value.
-fn joined<T: PartialEq + Copy>(known: Known<T>, value: T) -> Known<T> {
-    match known {
-        Known::Is(same) if same == value => Known::Is(same),
-        _ => Known::Unknown,
-    }
-}
-
-/// What is known of a register, where a further state holds this.
-fn joined_entry(known: &KnownEntry, held: Option<TimeCode>) -> KnownEntry {
-    match (known, held) {
-        (KnownEntry::Clear, None) => KnownEntry::Clear,
-        (KnownEntry::At(time), Some(other)) if *time == other => KnownEntry::At(other),
-        (KnownEntry::At(_) | KnownEntry::SetSomewhere, Some(_)) => KnownEntry::SetSomewhere,
-        _ => KnownEntry::Unknown,
-    }
-}
-
-/// What is known of a register of a deck in this state.
-fn known_entry(state: &PlainState, register: Register) -> KnownEntry {
-    match time_of(state, register) {
-        None => KnownEntry::Clear,
-        Some(time) => KnownEntry::At(time),
-    }
-}
-
-/// What is known of a deck in this state.
-fn known_state(state: &PlainState) -> Knowledge {
-    Knowledge {
-        goal: Known::Is(state.goal),
-        shown: Known::Is(state.shown),
-        ins: known_entry(state, Register::RegIn),
-        outs: known_entry(state, Register::RegOut),
-        ains: known_entry(state, Register::RegAudioIn),
-        aouts: known_entry(state, Register::RegAudioOut),
-        local: Known::Is(state.local),
-        panel: Known::Is(state.panel),
-    }
-}
-
-/// What is known where a further state is possible.
-fn joined_state(before: &Knowledge, state: &PlainState) -> Knowledge {
-    Knowledge {
-        goal: joined(before.goal, state.goal),
-        shown: joined(before.shown, state.shown),
-        ins: joined_entry(&before.ins, time_of(state, Register::RegIn)),
-        outs: joined_entry(&before.outs, time_of(state, Register::RegOut)),
-        ains: joined_entry(&before.ains, time_of(state, Register::RegAudioIn)),
-        aouts: joined_entry(&before.aouts, time_of(state, Register::RegAudioOut)),
-        local: joined(before.local, state.local),
-        panel: joined(before.panel, state.panel),
-    }
-}
-
 impl<'a> ListedDeck<'a> {
     /// Every state is possible, but for the panel where nobody touches it.
     pub(super) fn new(
@@ -188,8 +144,46 @@ impl<'a> ListedDeck<'a> {
             hands,
             states,
             possible,
+            going: PlainGoing::all_of(&sheet),
             alloc,
         })
+    }
+
+    /// What may be going on.
+    pub(super) fn going(&self) -> PlainGoing {
+        self.going
+    }
+
+    /// The same deck, where these states are possible.
+    fn with_possible(&self, possible: Vec<bool>) -> Result<ListedDeck<'a>, AllocError> {
+        Ok(ListedDeck {
+            sheet: self.sheet,
+            times: self.times,
+            registers: self.registers,
+            hands: self.hands,
+            states: self.states.clone()?,
+            possible,
+            going: self.going,
+            alloc: self.alloc,
+        })
+    }
+
+    /// The same deck.
+    pub(super) fn copy(&self) -> Result<ListedDeck<'a>, AllocError> {
+        self.with_possible(self.possible.clone()?)
+    }
+
+    /// The same deck, where this state alone is possible.
+    pub(super) fn only(&self, state: &PlainState) -> Result<ListedDeck<'a>, AllocError> {
+        let mut possible = vec![in self.alloc; false; self.states.len()]?;
+        put(&mut possible, place_of(&self.times, self.registers, state));
+        self.with_possible(possible)
+    }
+
+    /// Whether a state is possible.
+    pub(super) fn has(&self, state: &PlainState) -> bool {
+        let place = place_of(&self.times, self.registers, state);
+        self.possible.get(place).copied().unwrap_or(false)
     }
 
     /// The state at a place, if it is possible.
@@ -265,27 +259,28 @@ impl<'a> ListedDeck<'a> {
     }
 
     /// Moves from each state that is possible, and from each that a move leads to.
-    fn drift(&mut self) -> Result<(), AllocError> {
+    pub(super) fn drift(&mut self) -> Result<(), AllocError> {
         self.touch();
+        let small = Small::Move(self.going);
         let mut reached = self.possible_states()?;
         let mut after = self.possible.clone()?;
         for place in 0..self.states.len() {
             if let Some(state) = reached.get(place).copied() {
-                self.put_after(&mut after, &mut reached, &state, &Small::Move)?;
+                self.put_after(&mut after, &mut reached, &state, &small)?;
             }
         }
         self.possible = after;
         Ok(())
     }
 
-    /// Does a small step in each of its ways; a deck in LOCAL may leave it.
-    fn step(&mut self, small: &Small, is_free: bool) -> Result<(), AllocError> {
+    /// Does a small step in each of its ways, or leaves it.
+    fn step(&mut self, small: &Small, leaving: Leaving) -> Result<(), AllocError> {
         let mut after = vec![in self.alloc; false; self.states.len()]?;
         let mut reached = Vec::new(self.alloc);
         for place in 0..self.states.len() {
             if let Some(state) = self.possible_at(place) {
                 self.put_after(&mut after, &mut reached, &state, small)?;
-                if is_free && state.local {
+                if leaving == Leaving::Anybody || (leaving == Leaving::InLocal && state.local) {
                     put(&mut after, place);
                 }
             }
@@ -309,7 +304,7 @@ impl<'a> ListedDeck<'a> {
                 _ => true,
             };
             if is_had && forgets(&self.sheet, command, self.hands, small) {
-                self.step(small, false)?;
+                self.step(small, Leaving::Nobody)?;
             }
         }
         Ok(())
@@ -318,13 +313,38 @@ impl<'a> ListedDeck<'a> {
     /// Takes the next exchange.
     pub(super) fn observe(&mut self, command: &Command, reply: &Block) -> Result<(), AllocError> {
         self.drift()?;
-        if NakBits::of(reply).is_some() {
-            return Ok(());
+        let is_refused = NakBits::of(reply).is_some();
+        if !is_refused {
+            self.keep(command, reply);
+            let in_local = is_free_in_local(command);
+            let leaving = if in_local {
+                Leaving::InLocal
+            } else {
+                Leaving::Nobody
+            };
+            self.act(command, leaving)?;
         }
-        self.keep(command, reply);
+        let after = self
+            .going
+            .after(&self.sheet, self.hands, command, is_refused);
+        self.going = after;
+        Ok(())
+    }
+
+    /// Takes the next exchange, of which the reply is not believed: the deck may have left it undone, wherever it is.
+    pub(super) fn take_unknown(&mut self, command: &Command) -> Result<(), AllocError> {
+        self.drift()?;
+        self.act(command, Leaving::Anybody)?;
+        let after = self.going.after_unknown(&self.sheet, self.hands, command);
+        self.going = after;
+        Ok(())
+    }
+
+    /// Does what a command does, or leaves it, and forgets what it makes the deck forget.
+    fn act(&mut self, command: &Command, leaving: Leaving) -> Result<(), AllocError> {
         let small = small_of(&self.sheet, command, self.hands);
         if !matches!(small, Small::Nothing) {
-            self.step(&small, is_free_in_local(command))?;
+            self.step(&small, leaving)?;
         }
         self.forget(command)
     }

@@ -6,7 +6,7 @@ use crate::tests::own_deck::profile_of;
 use crate::tests::plain_deck::{LISTED_HEADS, Sheet};
 use crate::tests::same;
 use block9::Command;
-use deck9::{Forgotten, Hands, Mode, Register};
+use deck9::{Forgotten, Hands, Lost, Mode, Register};
 use std::alloc::{AllocError, Global};
 use std::ops::Range;
 use std::process::Abort;
@@ -36,6 +36,26 @@ pub(super) fn listed(draw: &mut Draw, time: TimeCode) -> Command {
         4 => Command::OutDataPreset { time },
         5 => Command::AudioInDataPreset { time },
         _ => Command::AudioOutDataPreset { time },
+    }
+}
+
+/// Commands of which a sheet may say what the deck may do by itself: two that are not listed, and STOP, PLAY, STANDBY ON and EJECT.
+const ACTING_HEADS: [u32; 6] = [0x20_42, 0x20_61, 0x20_00, 0x20_01, 0x20_05, 0x20_0F];
+
+/// A command that may begin or end what a deck does by itself, or leave it as it is, or that asks for what shows it.
+pub(super) fn acting(draw: &mut Draw) -> Command {
+    match draw.below(16) {
+        0..=2 => Command::Unlisted { head: 0x20_42 },
+        3 => Command::Unlisted { head: 0x20_61 },
+        4 => Command::Stop,
+        5 => Command::Play,
+        6 => Command::StandbyOn,
+        7 => Command::Eject,
+        8 => Command::CueUpWithData {
+            time: TimeCode::default(),
+        },
+        9..=11 => Command::StatusSense { asked: 0x31 },
+        _ => Command::StatusSense { asked: 0x12 },
     }
 }
 
@@ -112,12 +132,41 @@ fn drawn_ways(alloc: Global, draw: &mut Draw) -> Result<Vec<(Mode, Mode)>, Alloc
     Ok(ways)
 }
 
+/// Up to three modes for some of the commands at which the deck may begin something, which it may show by itself.
+fn drawn_runs(alloc: Global, draw: &mut Draw) -> Result<Vec<(u32, Mode)>, AllocError> {
+    let mut runs = Vec::new(alloc);
+    let heads: &[u32] = if draw.one_in(2) { &ACTING_HEADS } else { &[] };
+    for head in heads {
+        if draw.one_in(3) {
+            for _ in 0..draw.below(4) {
+                runs.push((*head, draw.mode()))?;
+            }
+        }
+    }
+    Ok(runs)
+}
+
+/// The registers that the deck may clear by itself, for some of these commands.
+fn drawn_loses(alloc: Global, draw: &mut Draw) -> Result<Vec<(u32, Lost)>, AllocError> {
+    let mut loses = Vec::new(alloc);
+    for head in ACTING_HEADS {
+        match draw.below(8) {
+            0 => loses.push((head, Lost::Points))?,
+            1 => loses.push((head, Lost::AllRegisters))?,
+            _ => {}
+        }
+    }
+    Ok(loses)
+}
+
 /// A sheet that was drawn.
 #[derive(Drop)]
 struct DrawnSheet {
     named: Vec<(u32, Forgotten)>,
     goals: Vec<(u32, Mode)>,
     ways: Vec<(Mode, Mode)>,
+    runs: Vec<(u32, Mode)>,
+    loses: Vec<(u32, Lost)>,
 }
 
 impl DrawnSheet {
@@ -128,6 +177,8 @@ impl DrawnSheet {
             named: drawn_names(alloc, draw, heads, goals.as_slice())?,
             goals,
             ways: drawn_ways(alloc, draw)?,
+            runs: drawn_runs(alloc, draw)?,
+            loses: drawn_loses(alloc, draw)?,
         })
     }
 
@@ -136,6 +187,8 @@ impl DrawnSheet {
             named: self.named.as_slice(),
             goals: self.goals.as_slice(),
             ways: self.ways.as_slice(),
+            runs: self.runs.as_slice(),
+            loses: self.loses.as_slice(),
         }
     }
 }

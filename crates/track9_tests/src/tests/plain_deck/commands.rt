@@ -70,18 +70,45 @@ pub(in crate::tests) const LISTED_HEADS: [u32; 7] = [
     0x00_0C, 0x00_11, 0x20_0F, 0x44_14, 0x44_15, 0x44_16, 0x44_17,
 ];
 
+/// The first two bytes of a transport command's block.
+fn transport_head(command: &Command) -> Option<u32> {
+    let head = match command {
+        Command::Stop => 0x20_00,
+        Command::Play => 0x20_01,
+        Command::Record => 0x20_02,
+        Command::StandbyOff => 0x20_04,
+        Command::StandbyOn => 0x20_05,
+        Command::Eject => 0x20_0F,
+        Command::FastForward => 0x20_10,
+        Command::Rewind => 0x20_20,
+        Command::Preroll => 0x20_30,
+        Command::SyncPlay => 0x20_34,
+        Command::JogForward => 0x21_11,
+        Command::VarForward => 0x21_12,
+        Command::ShuttleForward => 0x21_13,
+        Command::JogReverse => 0x21_21,
+        Command::VarReverse => 0x21_22,
+        Command::ShuttleReverse => 0x21_23,
+        Command::CueUpWithData { .. } => 0x24_31,
+        _ => return None,
+    };
+    Some(head)
+}
+
 /// The first two bytes of a command's block, where a sheet may name it; otherwise of none that is named.
 pub(in crate::tests) fn head_of(command: &Command) -> u32 {
+    if let Some(head) = transport_head(command) {
+        return head;
+    }
     match command {
         Command::Unlisted { head } => *head,
         Command::LocalDisable => 0x00_0C,
         Command::DeviceType => 0x00_11,
-        Command::Eject => 0x20_0F,
         Command::InDataPreset { .. } => 0x44_14,
         Command::OutDataPreset { .. } => 0x44_15,
         Command::AudioInDataPreset { .. } => 0x44_16,
         Command::AudioOutDataPreset { .. } => 0x44_17,
-        _ => 0x20_00,
+        _ => 0x60_00,
     }
 }
 

@@ -2,7 +2,7 @@
 
 use super::{LISTED_HEADS, WAYS, head_of};
 use block9::Command;
-use deck9::{Forgotten, Mode};
+use deck9::{Forgotten, Lost, Mode};
 
 /// What a deck does of its own.
 #[derive(Clone, Copy)]
@@ -15,6 +15,10 @@ pub(in crate::tests) struct Sheet<'a> {
     pub(in crate::tests) goals: &'a [(u32, Mode)],
     /// Goals, each with a mode that may be shown on the way to it beside those of every deck.
     pub(in crate::tests) ways: &'a [(Mode, Mode)],
+    /// Commands of group 2, by the first two bytes of their blocks, each with a mode that the deck may show by itself after it.
+    pub(in crate::tests) runs: &'a [(u32, Mode)],
+    /// Commands of group 2, by the same two bytes, each with the registers that the deck may clear by itself after it.
+    pub(in crate::tests) loses: &'a [(u32, Lost)],
 }
 
 /// A deck does nothing of its own.
@@ -22,6 +26,8 @@ pub(in crate::tests) const NO_SHEET: Sheet<'static> = Sheet {
     named: &[],
     goals: &[],
     ways: &[],
+    runs: &[],
+    loses: &[],
 };
 
 impl<'a> Sheet<'a> {
@@ -87,9 +93,23 @@ impl<'a> Sheet<'a> {
         count
     }
 
+    /// Whether the command with this head has something of what the deck does by itself.
+    pub(super) fn acts_at(&self, head: u32) -> bool {
+        self.runs.iter().any(|(named, _)| *named == head)
+            || self.loses.iter().any(|(named, _)| *named == head)
+    }
+
+    /// Whether the deck does something by itself.
+    pub(in crate::tests) fn acts(&self) -> bool {
+        !self.runs.is_empty() || !self.loses.is_empty()
+    }
+
     /// No small step can be done in more ways.
     pub(in crate::tests) fn most_ways(&self) -> usize {
+        let lost = if self.loses.is_empty() { 0 } else { 4 };
         WAYS.saturating_add(self.ways.len())
             .saturating_add(self.goals.len())
+            .saturating_add(self.runs.len())
+            .saturating_add(lost)
     }
 }

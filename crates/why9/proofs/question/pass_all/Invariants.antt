@@ -5,5 +5,6 @@ use Rattle.why9.proofs.question.pass_all.Given as goal
 abbrev pub invariant-loop-exchange : goal.invariant-loop-exchange
 invariant-loop-exchange l = record {
   profile : l.tracker.profile ≡ l.fn.tracker.profile;
-  passed : ArePassed l.fn.tracker.profile (Possible l.fn.tracker.states) (take l.exchange-index l.exchanges) (Possible l.tracker.states);
+  passed : ArePassed l.fn.tracker.profile l.fn.tracker.going (Possible l.fn.tracker.states) (take l.exchange-index l.exchanges) l.tracker.going
+      (Possible l.tracker.states);
 }

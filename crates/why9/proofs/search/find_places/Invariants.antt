@@ -6,7 +6,7 @@ use Rattle.why9.proofs.search.find_places.Given as goal
 abbrev pub invariant-loop-place : goal.invariant-loop-place
 invariant-loop-place l = record {
   profile : l.tracker.profile ≡ l.fn.tracker.profile;
-  reached : IsReached l.fn.tracker.profile (Possible l.tracker.states) l.exchanges l.place l.places.items;
+  reached : IsReached l.fn.tracker.profile l.tracker.going (Possible l.tracker.states) l.exchanges l.place l.places.items;
 }
 
 abbrev pub decreases-loop-place : goal.decreases-loop-place

@@ -21,7 +21,7 @@ loop-high-preserved-then-branch c =
       low_high = omega arith;
       high_end = omega arith;
       contradict = c.loop-high.invariant.contradict;
-      after = asked.0 (c.in_ok-leaves_a_run.ensures.0 c.if-branch.true);
+      after = asked.0 ((rw c.requires.going at c.in_ok-leaves_a_run.ensures).0 c.if-branch.true);
     }
 
 pub loop-high-preserved : goal.loop-high-preserved
@@ -31,6 +31,6 @@ loop-high-preserved c =
     record {
       low_high = omega arith;
       high_end = c.loop-high.invariant.high_end;
-      contradict = λ w. false≢true (sym c.if-branch.false ∙ c.in_ok-leaves_a_run.ensures.1 (asked.1 w));
+      contradict = λ w. false≢true (sym c.if-branch.false ∙ (rw c.requires.going at c.in_ok-leaves_a_run.ensures).1 (asked.1 w));
       after = c.loop-high.invariant.after;
     }

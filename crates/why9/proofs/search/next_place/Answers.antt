@@ -12,8 +12,8 @@ loop-place-preserved-then-branch c =
       next_step = let next = c.loop-place.invariant.next_step in omega arith;
       profile = c.in_ok-moves_on.ensures.profile ∙ profile;
       above = omega arith;
-      between = between-moved _ (Possible c.loop-place.tracker.states) _ _ _ _ _ c.loop-place.invariant.between (omega arith) (omega arith) none passed;
-      passed = passed-on _ _ (Possible c.loop-place.tracker.states) _ _ _ c.loop-place.place _ c.loop-place.invariant.above (omega arith)
+      between = between-moved _ _ _ (Possible c.loop-place.tracker.states) _ _ _ _ _ c.loop-place.invariant.between (omega arith) (omega arith) none passed;
+      passed = passed-on _ _ _ _ _ (Possible c.loop-place.tracker.states) _ _ _ c.loop-place.place _ c.loop-place.invariant.above (omega arith)
           c.loop-place.invariant.passed passed;
     }
 
@@ -25,6 +25,6 @@ loop-place-preserved c =
       next_step = let next = c.loop-place.invariant.next_step in omega arith;
       profile = c.loop-place.invariant.profile;
       above = c.loop-place.invariant.above;
-      between = between-nearer _ _ _ _ _ _ c.loop-place.invariant.between (omega arith) (omega arith) run;
+      between = between-nearer _ _ _ _ _ _ _ c.loop-place.invariant.between (omega arith) (omega arith) run;
       passed = c.loop-place.invariant.passed;
     }

@@ -8,8 +8,8 @@ invariant-loop-place l = record {
   next_step : 0 < l.next_step;
   profile : l.tracker.profile ≡ l.fn.tracker.profile;
   above : l.low ≤ l.place;
-  between : IsBetween l.fn.tracker.profile (Possible l.tracker.states) l.exchanges l.place l.high;
-  passed : ArePassedTo l.fn.tracker.profile l.exchanges l.low (Possible l.fn.tracker.states) l.place (Possible l.tracker.states);
+  between : IsBetween l.fn.tracker.profile l.tracker.going (Possible l.tracker.states) l.exchanges l.place l.high;
+  passed : ArePassedTo l.fn.tracker.profile l.exchanges l.low l.fn.tracker.going (Possible l.fn.tracker.states) l.place l.tracker.going (Possible l.tracker.states);
 }
 
 abbrev pub decreases-loop-place : goal.decreases-loop-place

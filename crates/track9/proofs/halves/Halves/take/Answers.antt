@@ -1,16 +1,7 @@
 use Rattle.track9.proofs.Words.{halves_rate, on_ok_weaker}
-use Rattle.track9.specs.declared.deed.Deed.TheVariants as deed
 use Rattle.track9.proofs.halves.Halves.take.Goals as goal
-use Rattle.track9.proofs.EffectLemmas.{taken, taken_read, taken_report}
+use Rattle.track9.proofs.LoseLemmas.{taken_as_quietly}
 
-pub returns-in-Read-clause-ok : goal.returns-in-Read-clause-ok
-returns-in-Read-clause-ok g c = rw c.in-Read.is (on_ok_weaker c.read.result
-    (λ new. rw new (taken_read c.args.deck.now (halves_rate c.args.self.now) c.in-Read.register c.in-Read.time c.args.self.now c.requires)) c.read.ensures.ok)
-
-pub returns-in-Report-clause-ok : goal.returns-in-Report-clause-ok
-returns-in-Report-clause-ok g c = rw (c.in-Report.is, c.report.ensures.kept)
-    (taken_report c.args.deck.now (halves_rate c.args.self.now) c.in-Report.status c.args.self.now c.requires)
-
-pub returns-in-Apply-clause-ok : goal.returns-in-Apply-clause-ok
-returns-in-Apply-clause-ok g c = rw c.in-Apply.is (on_ok_weaker c.apply.result
-    (taken c.args.deck.now (halves_rate c.args.self.now) (deed.Apply c.in-Apply.effect c.in-Apply.may_stay) c.args.self.now c.apply.new.self c.requires) c.apply.ensures.ok)
+pub returns-in-NoRegister-clause-ok : goal.returns-in-NoRegister-clause-ok
+returns-in-NoRegister-clause-ok g c = on_ok_weaker c.take_quietly.result
+    (taken_as_quietly c.args.acting.now (halves_rate c.args.self.now) c.args.deed.now c.args.self.now c.take_quietly.new.self (rw c.going.ensures at c.in-NoRegister.is)) c.take_quietly.ensures.ok

@@ -7,4 +7,4 @@ returns-in_ok-take-in-None-clause-ok g c =
     let rate = halves_rate c.self.inside.off in
     let d = c.nothing-nothing.result in
     rw (← c.nothing-nothing.ensures) (rw (← c.self.view_is, none_on (option_map (λ b. b.value) c.self.inside.on) (ap hands_of c.self.view_is ∙ sym c.hands.ensures ∙ c.in-None.is))
-    (leads_off c.args.deck.now rate (DriftsAndGoes (Acts d)) _ (take_panel c.args.deck.now rate d) c.self.inside.off c.take.new.self c.in_ok-take-in-None.ensures.ok))
+    (leads_off c.args.acting.now.deck rate (λ p. DriftsAndGoes (Acts d) p c.args.acting.now.on) _ (take_panel c.args.acting.now rate d) c.self.inside.off c.take.new.self c.in_ok-take-in-None.ensures.ok))

@@ -13,8 +13,8 @@ returns-clause-ok g c =
     let rate = states_rate c.args.self.now in
     let live = remains_with_panel_on c.args.self.now in
     let on = rw (whole_rate rate (all_or_none rate live) (whole_halves rate live)) at (rw c.in_ok-on.ensures at c.in_default.ensures.ok) in
-    rw c.put_on.ensures (subst (λ h. Follows (deck_of c.args.deck.now rate h) d c.args.self.now
+    rw c.put_on.ensures (subst (λ h. Follows (deck_of c.args.acting.now.deck rate h) c.args.acting.now.on d c.args.self.now
     (record { off = c.take-2.new.self; on = Some c.take.new.self })) (sym c.requires.hands)
-    (leads_both c.args.deck.now (Acts d) _ c.args.self.now c.take-2.new.self c.take.new.self
-    (narrow_take c.args.deck.now rate d c.requires.narrow) c.requires.whole c.below_day.ensures
-    (subst (λ (v : States). Taken c.args.deck.now (states_rate v) d v.off c.take-2.new.self) c.self.view_is c.in_default-take.ensures.ok) on))
+    (leads_both c.args.acting.now (Acts d) _ c.args.self.now c.take-2.new.self c.take.new.self
+    (narrow_take c.args.acting.now rate d c.requires.narrow) c.requires.whole c.below_day.ensures
+    (subst (λ (v : States). Taken c.args.acting.now (states_rate v) d v.off c.take-2.new.self) c.self.view_is c.in_default-take.ensures.ok) on))

@@ -1,7 +1,4 @@
-use Rattle.track9.proofs.Words.{arith, on_ok_weaker}
 use Rattle.track9.proofs.tracker.Tracker.take_unknown.Goals as goal
-use Rattle.track9.proofs.ForgetLemmas.{passes_alone}
 
-pub returns-in-Nothing-clause-reached : goal.returns-in-Nothing-clause-reached
-returns-in-Nothing-clause-reached g c = on_ok_weaker c.pass.result
-    (passes_alone c.args.self.now.profile c.args.exchange.now _ _ (grind (arith, c.in-Nothing.ensures, c.self.view_is))) c.pass.ensures.reached
+pub returns-clause-remains : goal.returns-clause-remains
+returns-clause-remains g c = rw c.go_on_after_unknown.ensures c.in_ok-take_states_unknown.ensures.remains
