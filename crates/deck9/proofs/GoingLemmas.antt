@@ -2,7 +2,7 @@
 use Rattle.deck9.proofs.Words.{[], all_with, arith, arrives, Bool, Deck, Drift, Effect, either, Exchange, false, Going, halts, handled, has, inl, inr, is_nak, left_after, left_by, List}
 use Rattle.deck9.proofs.Words.{listed_effect, loses, Lost, may_lose, Mode, more_lost, Move, Moves, named_on, None, nothing_on, on_after, on_at_first, Option, passes, Profile, refl, Register, runs}
 use Rattle.deck9.proofs.Words.{Some, State, subst, sym, Stop, together, true, with_named, ℕ, ◌∙◌, ◌∷◌, ◌≡◌, ◌⊎◌, ◌||◌, head_of, if◌then◌else◌}
-use Rattle.deck9.proofs.Words.{goes_on, Hands}
+use Rattle.deck9.proofs.Words.{after_transport, goes_on, Hands, ◌==◌}
 use Rattle.deck9.specs.Laws.{IsPartOf}
 use Rattle.deck9.proofs.ModeSetLemmas.{has-or, nothing_has}
 use Rattle.std.specs.BTreeMap.{values}
@@ -81,8 +81,8 @@ left_is_less (Effect.Go _) g = nothing_is_part g
 left_is_less f g = part_self g
 
 -- what goes on after an exchange is a part of all that is named, where that before it is
-pub after_is_part : (deck : Option Deck) (b : Bool) (e : Exchange) (g : Going) → IsPartOf g (on_at_first deck) → IsPartOf (on_after deck b e g) (on_at_first deck)
-after_is_part deck true e g part = by_reply (is_nak e.reply)
+transport_is_part : (deck : Option Deck) (b : Bool) (e : Exchange) (g : Going) → IsPartOf g (on_at_first deck) → IsPartOf (after_transport deck b e g) (on_at_first deck)
+transport_is_part deck true e g part = by_reply (is_nak e.reply)
   where
     by_name : (named : Option Going) → named_on deck (head_of e.block) ≡ named → IsPartOf (left_after deck e.command (head_of e.block) g) (on_at_first deck)
     by_name (Some h) is = rw is (named_is_part deck (head_of e.block) h is)
@@ -91,11 +91,18 @@ after_is_part deck true e g part = by_reply (is_nak e.reply)
     by_reply : (nak : Bool) → IsPartOf (if nak then g else left_after deck e.command (head_of e.block) g) (on_at_first deck)
     by_reply true = part
     by_reply false = by_name (named_on deck (head_of e.block)) refl
-after_is_part deck false e g part = by_name (named_on deck (head_of e.block)) refl
+transport_is_part deck false e g part = by_name (named_on deck (head_of e.block)) refl
   where
     by_name : (named : Option Going) → named_on deck (head_of e.block) ≡ named → IsPartOf (with_named named g) (on_at_first deck)
     by_name (Some h) is = both_are_part g h (on_at_first deck) part (named_is_part deck (head_of e.block) h is)
     by_name None is = part
+
+pub after_is_part : (deck : Option Deck) (b : Bool) (e : Exchange) (g : Going) → IsPartOf g (on_at_first deck) → IsPartOf (on_after deck b e g) (on_at_first deck)
+after_is_part deck b e g part = by_group (e.block.group == 2)
+  where
+    by_group : (group : Bool) → IsPartOf (if group then after_transport deck b e g else g) (on_at_first deck)
+    by_group true = transport_is_part deck b e g part
+    by_group false = part
 
 -- ---- a drift
 
@@ -121,8 +128,8 @@ left_more (Effect.Go Stop) g h part = record { modes = λ m x. x; lost = part.lo
 left_more (Effect.Go _) g h part = part_self nothing_on
 left_more f g h part = part
 
-after_more : (deck : Option Deck) (b : Bool) (e : Exchange) (g h : Going) → IsPartOf g h → IsPartOf (on_after deck b e g) (on_after deck b e h)
-after_more deck true e g h part = by_reply (is_nak e.reply)
+transport_more : (deck : Option Deck) (b : Bool) (e : Exchange) (g h : Going) → IsPartOf g h → IsPartOf (after_transport deck b e g) (after_transport deck b e h)
+transport_more deck true e g h part = by_reply (is_nak e.reply)
   where
     by_name : (named : Option Going) → named_on deck (head_of e.block) ≡ named
         → IsPartOf (left_after deck e.command (head_of e.block) g) (left_after deck e.command (head_of e.block) h)
@@ -132,11 +139,18 @@ after_more deck true e g h part = by_reply (is_nak e.reply)
     by_reply : (nak : Bool) → IsPartOf (if nak then g else left_after deck e.command (head_of e.block) g) (if nak then h else left_after deck e.command (head_of e.block) h)
     by_reply true = part
     by_reply false = by_name (named_on deck (head_of e.block)) refl
-after_more deck false e g h part = by_name (named_on deck (head_of e.block))
+transport_more deck false e g h part = by_name (named_on deck (head_of e.block))
   where
     by_name : (named : Option Going) → IsPartOf (with_named named g) (with_named named h)
     by_name (Some x) = both_are_part g x (together h x) (part_join g h (together h x) part (left_is_part h x)) (right_is_part h x)
     by_name None = part
+
+after_more : (deck : Option Deck) (b : Bool) (e : Exchange) (g h : Going) → IsPartOf g h → IsPartOf (on_after deck b e g) (on_after deck b e h)
+after_more deck b e g h part = by_group (e.block.group == 2)
+  where
+    by_group : (group : Bool) → IsPartOf (if group then after_transport deck b e g else g) (if group then after_transport deck b e h else h)
+    by_group true = transport_more deck b e g h part
+    by_group false = part
 
 pub goes_on_more : (profile : Profile) (b : Bool) (e : Exchange) (g h : Going) → IsPartOf g h → IsPartOf (goes_on profile b e g) (goes_on profile b e h)
 goes_on_more profile b e g h part = by_hands profile.hands refl
@@ -173,9 +187,13 @@ fewer_believed profile true false e g h le part = by_hands profile.hands refl
         stays None = part
     by_reply false = by_name (named_on profile.deck (head_of e.block)) refl
 
+    by_group : (group : Bool) → IsPartOf (if group then after_transport profile.deck true e g else g) (if group then after_transport profile.deck false e h else h)
+    by_group true = by_reply (is_nak e.reply)
+    by_group false = part
+
     by_hands : (hands : Hands) → profile.hands ≡ hands → IsPartOf (goes_on profile true e g) (goes_on profile false e h)
     by_hands Hands.Allowed is = rw is part
-    by_hands Hands.None is = rw is (by_reply (is_nak e.reply))
+    by_hands Hands.None is = rw is (by_group (e.block.group == 2))
 
 -- a reply that is not believed ends nothing
 pub unbelieved_keeps : (profile : Profile) (e : Exchange) (g : Going) → IsPartOf g (goes_on profile false e g)
@@ -185,6 +203,10 @@ unbelieved_keeps profile e g = by_hands profile.hands refl
     by_name (Some x) = left_is_part g x
     by_name None = part_self g
 
+    by_group : (group : Bool) → IsPartOf g (if group then after_transport profile.deck false e g else g)
+    by_group true = by_name (named_on profile.deck (head_of e.block))
+    by_group false = part_self g
+
     by_hands : (hands : Hands) → profile.hands ≡ hands → IsPartOf g (goes_on profile false e g)
     by_hands Hands.Allowed is = rw is (part_self g)
-    by_hands Hands.None is = rw is (by_name (named_on profile.deck (head_of e.block)))
+    by_hands Hands.None is = rw is (by_group (e.block.group == 2))

@@ -8,7 +8,7 @@ use Rattle.deck9.specs.Deck.{named_beside, unless_sensed}
 use Rattle.deck9.specs.Laws.{DoesNoMore, GoesOnNoMore, IsNoMore, IsPartOf, NamedIsPartOf, NamesNoMore, PassesNoMore, SaysNoMore}
 use Rattle.deck9.proofs.Words.{goes_on, Going, Hands, inl, inr, loses, on_at_first, refl, runs, ◌≡◌}
 use Rattle.deck9.proofs.DriftLemmas.{kept_valid, pairs_from_drift}
-use Rattle.deck9.proofs.Words.{left_after, listed_effect, named_on, on_after, together, with_named}
+use Rattle.deck9.proofs.Words.{after_transport, left_after, listed_effect, named_on, on_after, together, with_named, ◌==◌}
 use Rattle.deck9.proofs.GoingLemmas.{both_are_part, goes_on_is_part, left_is_less, left_is_part, left_more, nothing_is_part, part_join, part_self, right_is_part}
 use Rattle.deck9.proofs.EffectLemmas.{does_valid}
 use Rattle.deck9.proofs.RestLemmas.{step_valid}
@@ -146,10 +146,18 @@ module _ (less more : Option Deck) (names : NamesNoMore less more) where
   pub names_no_more : GoesOnNoMore less more
   names_no_more = record { at_first = names.all; after = after }
     where
-      after : (b : Bool) (e : Exchange) (g h : Going) → IsPartOf g h → IsPartOf g (on_at_first less) → IsPartOf (on_after less b e g) (on_after more b e h)
-      after true e g h part known = by_reply (is_nak e.reply)
+      transport : (b : Bool) (e : Exchange) (g h : Going) → IsPartOf g h → IsPartOf g (on_at_first less)
+          → IsPartOf (after_transport less b e g) (after_transport more b e h)
+      transport true e g h part known = by_reply (is_nak e.reply)
         where
           by_reply : (nak : Bool) → IsPartOf (if nak then g else left_after less e.command (head_of e.block) g) (if nak then h else left_after more e.command (head_of e.block) h)
           by_reply true = part
           by_reply false = left e.command (head_of e.block) g h part known
-      after false e g h part known = with_either e.command (head_of e.block) g h part
+      transport false e g h part known = with_either e.command (head_of e.block) g h part
+
+      after : (b : Bool) (e : Exchange) (g h : Going) → IsPartOf g h → IsPartOf g (on_at_first less) → IsPartOf (on_after less b e g) (on_after more b e h)
+      after b e g h part known = by_group (e.block.group == 2)
+        where
+          by_group : (group : Bool) → IsPartOf (if group then after_transport less b e g else g) (if group then after_transport more b e h else h)
+          by_group true = transport b e g h part known
+          by_group false = part

@@ -7,7 +7,7 @@ pub use Rattle.block9.specs.declared.command.Command.{Command}
 pub use Rattle.block9.specs.declared.exchange.Exchange.{Exchange}
 pub use Rattle.deck9.specs.Contradict.{behind_first, CanPass, forgotten_if, HasBelieving, IsBelievingFrom, MayDo, MayGo}
 pub use Rattle.deck9.specs.Drift.{arrives, ComesToShow, Drift, DriftsTo, halts, handled, KeepsRest, loses, Move, Moves, PairReaches, passes, runs, StaysOrLost}
-pub use Rattle.deck9.specs.Going.{all_with, goes_on, left_after, left_by, may_lose, more_lost, named_on, nothing_on, on_after, on_at_first, together, with_named}
+pub use Rattle.deck9.specs.Going.{after_transport, all_with, goes_on, left_after, left_by, may_lose, more_lost, named_on, nothing_on, on_after, on_at_first, together, with_named}
 pub use Rattle.deck9.specs.declared.going.Going.{Going}
 pub use Rattle.deck9.specs.declared.going.Lost.{Lost}
 pub use Rattle.deck9.specs.Effect.{Becomes, Does, effect_of, Forgets, KeepsPanel, listed_effect, moved_entry, switched, unlisted_effect, with_forgotten}

@@ -1,6 +1,6 @@
 -- What a deck may do by itself between two exchanges, beside its drift: show some modes, and clear some registers. What may be going on
 -- follows from the exchanges alone, and is the same for every state.
-use Rattle.std.specs.Prelude.{ℕ, Bool, true, false, if◌then◌else◌, Option, Some, None, List, [], ◌∷◌}
+use Rattle.std.specs.Prelude.{ℕ, ◌==◌, Bool, true, false, if◌then◌else◌, Option, Some, None, List, [], ◌∷◌}
 use Rattle.std.specs.BTreeMap.{get, values}
 use Rattle.std.specs.Ordering.{nat_cmp}
 use Rattle.block9.specs.declared.command.Command.{Command}
@@ -81,10 +81,14 @@ abbrev pub with_named : Option Going → Going → Going
 with_named None g = g
 with_named (Some named) g = together g named
 
--- what goes on after an exchange whose reply is believed, or not: a NAK ends and begins nothing
+-- what goes on after a command of group 2 whose reply is believed, or not: a NAK ends and begins nothing
+abbrev pub after_transport : Option Deck → Bool → Exchange → Going → Going
+after_transport deck true e g = if is_nak e.reply then g else left_after deck e.command (head_of e.block) g
+after_transport deck false e g = with_named (named_on deck (head_of e.block)) g
+
+-- what goes on after an exchange: commands of group 2 alone, those of the transport, end or begin anything
 abbrev pub on_after : Option Deck → Bool → Exchange → Going → Going
-on_after deck true e g = if is_nak e.reply then g else left_after deck e.command (head_of e.block) g
-on_after deck false e g = with_named (named_on deck (head_of e.block)) g
+on_after deck believed e g = if e.block.group == 2 then after_transport deck believed e g else g
 
 -- the same of a deck that is taken for this: with hands all goes on that did, since a hand may have begun it
 abbrev pub goes_on : Profile → Bool → Exchange → Going → Going

@@ -35,8 +35,9 @@ pub struct Deck {
     /// What it forgets at a command beside the command's own effect, by the first two bytes of the command's block as one number:
     /// nothing at one that is not named here, nor at one that asks for something of the state.
     pub also_forgets: BTreeMap<u32, Forgotten>,
-    /// What it may do by itself after a command, until another ends it, by the first two bytes of the command's block as one number.
-    /// At a command that is not named here what was going on ends, or goes on, as the command's effect says.
+    /// What it may do by itself after a command of group 2, until another ends it, by the first two bytes of the command's block as one
+    /// number. At one that is not named here what was going on ends, or goes on, as the command's effect says; a command of another group
+    /// ends and begins nothing.
     pub acts: BTreeMap<u32, Going>,
     /// The modes that it may show on the way to each goal, in the order of the modes.
     pub ways: [ModeSet; 10],

@@ -127,17 +127,20 @@ impl<'a> DeckRef<'a> {
         self.0?.acts.get(&head).copied()
     }
 
-    /// What goes on after an exchange, where this went on before it.
+    /// What goes on after an exchange, where this went on before it. It changes at commands of group 2 alone.
     #[inline(always)] // it is asked of every exchange
     pub fn on_after(&self, exchange: &Exchange, going: Going) -> Going
         ensures { result ≡ on_after self.now true exchange.now going }
     {
-        if exchange.reply.is_nak() {
+        // nearly always: nothing goes on, and nothing is named that could
+        if self.0.is_none() && going == Going::NOTHING {
+            return going;
+        }
+        if exchange.block.group != 2 || exchange.reply.is_nak() {
             return going;
         }
         match self.named_on(exchange.block.head()) {
             Some(named) => named,
-            None if going == Going::NOTHING => going, // nearly always: nothing of it can end
             None => going.left_by(&Effect::listed(&exchange.command)),
         }
     }
@@ -146,6 +149,9 @@ impl<'a> DeckRef<'a> {
     pub fn on_after_unknown(&self, exchange: &Exchange, going: Going) -> Going
         ensures { result ≡ on_after self.now false exchange.now going }
     {
+        if exchange.block.group != 2 {
+            return going;
+        }
         match self.named_on(exchange.block.head()) {
             Some(named) => going.together(named),
             None => going,

@@ -25,9 +25,9 @@ use Rattle.tc25.proofs.DayLemmas.{some_day}
 use Rattle.deck9.proofs.RestLemmas.{step_valid}
 use Rattle.track9.proofs.EffectLemmas.{masked_has}
 use Rattle.deck9.specs.declared.going.Going.{Going}
-use Rattle.track9.specs.Working.Acting.{Acted, way_by}
+use Rattle.track9.specs.Working.Acting.{Acted, reach_of, way_by}
 use Rattle.track9.proofs.Words.{pairs_from_drift, StaysOrLost}
-use Rattle.track9.proofs.EntryLemmas.{way_comes, drifted_has, drifted_to, goals_has, goes_from, no_entry, pair_by_goal}
+use Rattle.track9.proofs.EntryLemmas.{way_comes, reach_has, drifted_has, drifted_to, goals_has, goes_from, no_entry, pair_by_goal}
 use Rattle.track9.proofs.KnownLemmas.{goal_to}
 use Rattle.track9.proofs.PartLemmas.{drift_panel, drift_state, each_register, possible_state, put, put_each, to_halves, halves_live}
 use Rattle.track9.proofs.Words.{or_cases}
@@ -260,7 +260,7 @@ if_none o h f = grind arith
 
 -- what was reached with no pair of its goal is what a deck shows that has come to a halt
 pub source_halted : (acted : Acted) (p : List ModeSet) (g m : Mode) → has (drifted_with acted p g).0 m ≡ true → has (shown_with p g).0 m ≡ false
-    → ((is_some (shown_with p g) ≡ false) ⊎ ((is_mode m g || has (way_by acted g).0 m) ≡ false)) → (g ≡ Stop) × ComesToShow acted.deck acted.on Stop m
+    → ((is_some (shown_with p g) ≡ false) ⊎ (has (reach_of acted g).0 m ≡ false)) → (g ≡ Stop) × ComesToShow acted.deck acted.on Stop m
 source_halted acted p g m h other way = elim (or_cases _ _ (sym (drifted_has acted p g m) ∙ h)) [
   | inl kept ↦ absurd (never kept)
   | inr stop ↦ let w = and_parts _ _ stop in let v = and_parts _ _ w.1 in
@@ -270,7 +270,7 @@ source_halted acted p g m h other way = elim (or_cases _ _ (sym (drifted_has act
     never : (has_pair p g m || (is_some (shown_with p g) && (is_mode m g || has (way_by acted g).0 m))) ≡ true → ⊥
     never kept = elim (or_cases _ _ kept) [
       | inl same ↦ false≢true (sym other ∙ same)
-      | inr moved ↦ let w = and_parts _ _ moved in elim way [ inl none ↦ false≢true (sym none ∙ w.0) | inr none ↦ false≢true (sym none ∙ w.1) ]
+      | inr moved ↦ let w = and_parts _ _ moved in elim way [ inl none ↦ false≢true (sym none ∙ w.0) | inr none ↦ false≢true (sym none ∙ reach_has acted g m ∙ w.1) ]
     ]
 
 -- the pairs that are wanted among those that are reached

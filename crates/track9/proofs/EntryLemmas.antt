@@ -1,6 +1,6 @@
 -- Single things that a tracker keeps: sets of modes, one bit at a time; a drift of pairs of goal and shown mode; and
 -- what becomes of a set of entries, one entry at a time.
-use Rattle.track9.proofs.Words.{all_has, and-true, either, has-and, nothing_has, ten_of, way_of, Gives}
+use Rattle.track9.proofs.Words.{all_has, and-true, either, has-and, nothing_has, way_of, Gives}
 use Rattle.track9.proofs.Words.{[], agreeing, Allows, and_parts, any_mode, ap, arith, At, Becomes, BelowDay, bit_of, Bool}
 use Rattle.track9.proofs.Words.{just_of, Rate, with_time, by_goal, Change, changed_entries, Clear, cond_both, contains-every_time, contains-insert_nat, contains-items_nat, contains-just, day}
 use Rattle.track9.proofs.Words.{drifted_with, Entries, Entry, eqb-true, every_mode, every_time, false, false≢true, find_mode, goal_if_shown, goals_of, all_shown, halted}
@@ -10,7 +10,7 @@ use Rattle.track9.proofs.Words.{next_frame, no_entries, not, not-true, Option, o
 use Rattle.track9.proofs.Words.{PairReaches, Prev, prev_frame, read_given, Recall, refl, Reset, same_times, set_entries, SetAt, SetSomewhere}
 use Rattle.track9.proofs.Words.{shown_with, some_entry, some_mode, some_pair, Stop, sym, Tells, time_of, given_reads, Times, true, true_from_ne_false, ℕ}
 use Rattle.track9.proofs.Words.{◌&&◌, ◌<◌, ◌||◌, ◌↔◌, ◌∙◌, ◌∷◌, ◌≡◌, ◌⊎◌}
-use Rattle.track9.specs.Working.Acting.{Acted, way_by}
+use Rattle.track9.specs.Working.Acting.{Acted, reach_of, way_by}
 use Rattle.std.specs.FinSet as set
 
 -- what is wanted of every mode is wanted of this one
@@ -49,15 +49,12 @@ goals_has p g = goes_any (by_goal (goal_if_shown p)) g ∙ simp if_has (has_ever
 
 -- ---- a drift
 
-ten_has : (way : ModeSet) (m : Mode) → has (ten_of way).0 m ≡ has way.0 m
-ten_has way m = grind (arith, has-and, all_has, and-true)
+kept_has : (s reach : ModeSet) (m : Mode) → has (kept_goal s reach).0 m ≡ (has s.0 m || (is_some s && has reach.0 m))
+kept_has s reach m = cond_both (is_some s) (either s reach) s (λ x. has x.0 m ≡ (has s.0 m || (is_some s && has reach.0 m)))
+    (λ e. rw e (has-or s.0 reach.0 m)) (λ e. rw e (sym (or-false (has s.0 m))))
 
-kept_has : (s way : ModeSet) (g m : Mode) → has (kept_goal s way g).0 m ≡ (has s.0 m || (is_some s && (is_mode m g || has way.0 m)))
-kept_has s way g m = cond_both (is_some s) (either (either s (modes (bit_of g))) (ten_of way)) s (λ x. has x.0 m ≡ (has s.0 m || (is_some s && (is_mode m g || has way.0 m))))
-    (λ e. rw e (simp (has-or, just_has, ten_has, or_assoc))) (λ e. rw e (sym (or-false (has s.0 m))))
-
-halted_has : (p : List ModeSet) (way : ModeSet) (m : Mode) → has (halted p way).0 m ≡ (some_pair p && (is_mode m Stop || has way.0 m))
-halted_has p way m = grind (arith, ten_has (either (modes (bit_of Stop)) way) m, has-or (bit_of Stop) way.0 m, just_has, nothing_has m)
+halted_has : (p : List ModeSet) (reach : ModeSet) (m : Mode) → has (halted p reach).0 m ≡ (some_pair p && has reach.0 m)
+halted_has p reach m = grind (arith, nothing_has m)
 
 -- a mode on the way to a goal, or one that may be going on
 pub way_has : (acted : Acted) (g m : Mode) → has (way_by acted g).0 m ≡ (has (way_of acted.deck g).0 m || has acted.on.modes.0 m)
@@ -66,17 +63,21 @@ way_has acted g m = has-or (way_of acted.deck g).0 acted.on.modes.0 m
 pub way_comes : (acted : Acted) (g m : Mode) → has (way_by acted g).0 m ≡ true → (has (way_of acted.deck g).0 m ≡ true) ⊎ (has acted.on.modes.0 m ≡ true)
 way_comes acted g m h = or_cases _ _ (sym (way_has acted g m) ∙ h)
 
+-- the goal itself is in its reach, and a mode on the way to it
+pub reach_has : (acted : Acted) (g m : Mode) → has (reach_of acted g).0 m ≡ (is_mode m g || has (way_by acted g).0 m)
+reach_has acted g m = grind (arith, has-and, all_has, and-true, has-or (bit_of g) (way_by acted g).0 m, just_has)
+
 -- a mode may be shown with a goal after a drift: as before; where a mode was shown with it, itself or one of its way; or with STOP, STOP or
 -- one of its way
-drifted_by : (way halt : ModeSet) (p : List ModeSet) (g m : Mode)
-    → has (if is_mode g Stop then either (kept_goal (shown_with p g) way g) (halted p halt) else kept_goal (shown_with p g) way g).0 m
-    ≡ ((has_pair p g m || (is_some (shown_with p g) && (is_mode m g || has way.0 m))) || (is_mode g Stop && (some_pair p && (is_mode m Stop || has halt.0 m))))
-drifted_by way halt p g m = grind (arith, kept_has, halted_has, has-or, or-false)
+drifted_by : (reach halt : ModeSet) (p : List ModeSet) (g m : Mode)
+    → has (if is_mode g Stop then either (kept_goal (shown_with p g) reach) (halted p halt) else kept_goal (shown_with p g) reach).0 m
+    ≡ ((has_pair p g m || (is_some (shown_with p g) && has reach.0 m)) || (is_mode g Stop && (some_pair p && has halt.0 m)))
+drifted_by reach halt p g m = grind (arith, kept_has, halted_has, has-or, or-false)
 
 pub drifted_has : (acted : Acted) (p : List ModeSet) (g m : Mode) → has (drifted_with acted p g).0 m
     ≡ ((has_pair p g m || (is_some (shown_with p g) && (is_mode m g || has (way_by acted g).0 m)))
     || (is_mode g Stop && (some_pair p && (is_mode m Stop || has (way_by acted Stop).0 m))))
-drifted_has acted p g m = drifted_by (way_by acted g) (way_by acted Stop) p g m
+drifted_has acted p g m = drifted_by (reach_of acted g) (reach_of acted Stop) p g m ∙ rw (reach_has acted g m, reach_has acted Stop m) refl
 
 pub drifted_from : (acted : Acted) (p : List ModeSet) (g m : Mode) → has (drifted_with acted p g).0 m ≡ true
     → (f : Mode) × (n : Mode) × (has_pair p f n ≡ true) × PairReaches acted.deck acted.on f n g m

@@ -47,7 +47,7 @@ pub use Rattle.track9.specs.Working.Deed.{Acts, counted, counts_after, deed_exch
 pub use Rattle.track9.specs.declared.deed.Deed.{Deed}
 pub use Rattle.track9.specs.Working.Entries.{agreeing, all_entries, is_nil, lost_entries, no_entries, set_entries, some_entry}
 pub use Rattle.track9.specs.Working.Knowing.{states_goals, join_options, known_fact, KnowsOf, PartKnows, states_shown, HalvesKnow}
-pub use Rattle.track9.specs.Working.Pairs.{all_pairs, by_goal, ten_of, drifted, drifted_with, goal_if_shown, goals_of, all_shown, gone, halted, joined, kept_goal, masked, pairs_of, shown_if}
+pub use Rattle.track9.specs.Working.Pairs.{all_pairs, by_goal, drifted, drifted_with, goal_if_shown, goals_of, all_shown, gone, halted, joined, kept_goal, masked, pairs_of, shown_if}
 pub use Rattle.track9.specs.Working.Pairs.{some_pair}
 pub use Rattle.track9.specs.Working.Parts.{all_states, changed_entries, changed_part, drifted_part, forgotten_part, gone_pairs, gone_part, HasState, lost_part, kept_or_gone, kept_or_gone_part}
 pub use Rattle.track9.specs.Working.Parts.{part_remains, masked_part, no_states, put_settled, part_rate, reported_part, sensed_part, set_where, settled, status_part, where_remains, Whole, with_entries}

@@ -1,25 +1,32 @@
 //! What a drift goes by: what the deck does of its own, and what may be going on.
-ghost use Rattle.std.specs.Prelude.{◌≡◌, false, true};
-ghost use Rattle.deck9.specs.Going.{on_after};
+ghost use Rattle.std.specs.Prelude.{◌≡◌, IsTrue, None, false, true};
+ghost use Rattle.deck9.specs.declared.mode.Mode.TheVariants.{Stop};
+ghost use Rattle.deck9.specs.Going.{nothing_on, on_after, on_at_first};
 ghost use Rattle.deck9.specs.declared.going.Lost.TheVariants.{NoRegister};
-ghost use Rattle.track9.specs.Working.Acting.{HoldsWays, ways_by};
+ghost use Rattle.track9.specs.Working.Acting.{HoldsReach, IsStill, reach_by};
 
 use block9::Exchange;
-use deck9::{DeckRef, Going, Mode, ModeSet};
+use deck9::{DeckRef, Going, Mode, ModeSet, Profile};
 use std::marker::Model;
 
-/// What a drift goes by. The modes that it may show on the way to each goal are made once, where what may be going on changes, so that
-/// a drift asks nothing more for them.
+/// What a drift goes by. The modes that it may show with each goal are made once, where what may be going on changes, so that a drift asks
+/// nothing more for them.
 #[derive(Drop)]
 pub(crate) struct Acting<'a> {
     pub(crate) deck: DeckRef<'a>,
     going: Going,
-    /// The modes on the way to each goal, with those that may be going on.
-    ways: [ModeSet; 10],
+    /// The modes that a drift may show with each goal that it keeps: itself, those on the way to it, and those that may be going on.
+    reach: [ModeSet; 10],
+    /// Those that it may show where it comes to a halt: those of STOP once more, so that a drift takes all goals alike, side by side.
+    at_halt: ModeSet,
+    /// Nothing goes on, and there is no sheet that names what could: so it is from here on.
+    is_still: bool,
 }
 
 impl<'a> Model for Acting<'a> {
-    ghost use Rattle.track9.specs.Working.Acting.{Acted, HoldsWays};
+    ghost use Rattle.std.specs.Prelude.{◌≡◌, true};
+    ghost use Rattle.deck9.specs.declared.mode.Mode.TheVariants.{Stop};
+    ghost use Rattle.track9.specs.Working.Acting.{Acted, HoldsReach, IsStill, reach_by};
     ghost use Rattle.track9.specs.Working.Codes.{stored};
 
     ghost Value = { Acted };
@@ -28,16 +35,40 @@ impl<'a> Model for Acting<'a> {
 
     ghost view = { λ a. record { deck = a.deck; on = a.going } };
 
-    ghost invariant = { λ a. HoldsWays a.deck a.going a.ways };
+    ghost invariant = { λ a. HoldsReach a.deck a.going a.reach × (a.at_halt ≡ reach_by a.deck a.going Stop) × (a.is_still ≡ true → IsStill a.deck a.going) };
 }
 
 impl<'a> Acting<'a> {
+    /// Of what a deck is taken for, before a capture.
+    pub(crate) fn at_first(profile: &'a Profile) -> Acting<'a>
+        ensures { result ≡ record { deck = profile.now.deck; on = on_at_first profile.now.deck } }
+    {
+        let deck = profile.deck_ref();
+        let going = deck.on_at_first();
+        let mut acting = Acting::new(deck, going);
+        acting.is_still = profile.deck.is_none();
+        acting
+    }
+
+    /// Of no deck: nothing goes on.
+    pub(crate) fn none() -> Acting<'a>
+        ensures { result ≡ record { deck = None; on = nothing_on } }
+    {
+        Acting::new(DeckRef::none(), Going::NOTHING)
+    }
+
     /// Of a deck, where this may be going on.
-    pub(crate) fn new(deck: DeckRef<'a>, going: Going) -> Acting<'a>
+    fn new(deck: DeckRef<'a>, going: Going) -> Acting<'a>
         ensures { result ≡ record { deck = deck.entry; on = going } }
     {
-        let ways = ways_with(&deck, going.modes);
-        Acting { deck, going, ways }
+        let reach = reach_of(&deck, going.modes);
+        Acting {
+            deck,
+            going,
+            reach,
+            at_halt: reach[Mode::Stop.index()],
+            is_still: false,
+        }
     }
 
     /// The same.
@@ -47,8 +78,18 @@ impl<'a> Acting<'a> {
         Acting {
             deck: self.deck.copy(),
             going: self.going,
-            ways: self.ways,
+            reach: self.reach,
+            at_halt: self.at_halt,
+            is_still: self.is_still,
         }
+    }
+
+    /// Whether it is known that no exchange begins or ends anything.
+    #[inline(always)] // it is asked of every exchange
+    pub(crate) fn is_still(&self) -> bool
+        ensures { IsTrue result → IsStill self.now.deck self.now.on }
+    {
+        self.is_still
     }
 
     /// What may be going on.
@@ -58,19 +99,27 @@ impl<'a> Acting<'a> {
         self.going
     }
 
-    /// The modes that a drift may show with each goal, beside it, in the order of the modes.
+    /// The modes that a drift may show with each goal that it keeps, in the order of the modes.
     #[inline(always)] // it is asked of every exchange
-    pub(crate) fn ways(&self) -> &[ModeSet; 10]
-        ensures { HoldsWays self.entry.now.deck self.entry.now.on result.now }
+    pub(crate) fn reach(&self) -> &[ModeSet; 10]
+        ensures { HoldsReach self.entry.now.deck self.entry.now.on result.now }
     {
-        &self.ways
+        &self.reach
     }
 
-    /// The modes that a drift may show with a goal, beside it.
-    pub(crate) fn way(&self, goal: Mode) -> ModeSet
-        ensures { result ≡ ways_by self.now.deck self.now.on goal }
+    /// The modes that a drift may show where it comes to a halt.
+    #[inline(always)] // it is asked of every exchange
+    pub(crate) fn at_halt(&self) -> ModeSet
+        ensures { result ≡ reach_by self.now.deck self.now.on Stop }
     {
-        self.ways[goal.index()]
+        self.at_halt
+    }
+
+    /// The modes that a drift may show with a goal that it keeps.
+    pub(crate) fn reach_with(&self, goal: Mode) -> ModeSet
+        ensures { result ≡ reach_by self.now.deck self.now.on goal }
+    {
+        self.reach[goal.index()]
     }
 
     /// What may be going on after an exchange, of which the reply is believed.
@@ -97,28 +146,32 @@ impl<'a> Acting<'a> {
         ensures { self.new ≡ record self.old { on = going } }
     {
         if going != self.going {
-            self.ways = ways_with(&self.deck, going.modes);
+            self.reach = reach_of(&self.deck, going.modes);
+            self.at_halt = self.reach[Mode::Stop.index()];
+            self.is_still = false;
             self.going = going;
         }
     }
 }
 
-/// The modes on the way to each goal, with these.
-fn ways_with(deck: &DeckRef, modes: ModeSet) -> [ModeSet; 10]
-    ensures { HoldsWays deck.now (record { modes = modes; lost = NoRegister }) result }
+/// The modes that a drift may show with each goal that it keeps, where these may be going on.
+fn reach_of(deck: &DeckRef, modes: ModeSet) -> [ModeSet; 10]
+    ensures { HoldsReach deck.now (record { modes = modes; lost = NoRegister }) result }
 {
     let [a, b, c, d, e, f, g, h, i, j] = *deck.ways();
-    let with = |way: ModeSet| way.or(modes);
+    let with = |goal: Mode, way: ModeSet| {
+        ModeSet::just(goal).or(way.or(modes)).and(ModeSet::ALL)
+    };
     [
-        with(a),
-        with(b),
-        with(c),
-        with(d),
-        with(e),
-        with(f),
-        with(g),
-        with(h),
-        with(i),
-        with(j),
+        with(Mode::Stop, a),
+        with(Mode::Play, b),
+        with(Mode::Rec, c),
+        with(Mode::FastForward, d),
+        with(Mode::Rewind, e),
+        with(Mode::Shuttle, f),
+        with(Mode::Jog, g),
+        with(Mode::Var, h),
+        with(Mode::Cued, i),
+        with(Mode::Eject, j),
     ]
 }

@@ -6,8 +6,9 @@ ghost use Rattle.deck9.specs.declared.state.State.{State as AState};
 ghost use Rattle.track9.specs.Presets.{count_of};
 ghost use Rattle.track9.specs.Tracker.{Possible};
 
+use crate::acting::Acting;
 use crate::tracker::Tracker;
-use deck9::{DeckRef, Hands};
+use deck9::Hands;
 use sets25::TimeSet;
 use std::alloc::{AllocError, Global};
 use tc25::Rate;
@@ -19,6 +20,6 @@ impl<'a, S: TimeSet> Tracker<'a, S> {
         ensures profile { IfOk result (λ t. t.profile ≡ record { rate = Rate.Fps25; hands = hands; deck = None }) }
         ensures presets { IfOk result (λ t. (r : ARegister) → count_of r t.presets ≡ 0) }
     {
-        Tracker::begin(alloc, Rate::Fps25, hands, DeckRef::none())
+        Tracker::begin(alloc, Rate::Fps25, hands, Acting::none())
     }
 }

@@ -3,6 +3,7 @@ ghost use Rattle.std.specs.Prelude.{◌≡◌, ◌↔◌, IfErr, IfOk, IsTrue, O
 ghost use Rattle.deck9.specs.Step.{AreReached, Goes};
 ghost use Rattle.deck9.specs.declared.state.State.{State as AState};
 ghost use Rattle.track9.specs.Following.{FollowsFrom, left_on};
+ghost use Rattle.track9.specs.Presets.{presets_after};
 ghost use Rattle.track9.specs.Tracker.{Possible};
 
 use crate::tracker::Tracker;
@@ -28,6 +29,7 @@ impl<'a, S: TimeSet> Tracker<'a, S> {
         ensures remains { IfOk result (λ b. IsTrue b ↔ ((s : AState) × Possible self.new.states s)) }
         ensures profile { IfOk result (λ b. self.new.profile ≡ self.old.profile) }
         ensures going { IfOk result (λ b. self.new.going ≡ left_on lasting self.old.profile exchange.now self.old.going) }
+        ensures presets { IfOk result (λ b. self.new.presets ≡ presets_after exchange.now.command exchange.now.reply b self.old.presets) }
         ensures unchanged { IfErr result (λ e. self.new ≡ self.old) }
     {
         match lasting {

@@ -115,8 +115,8 @@ impl Pairs {
     pub(crate) fn drifted(&self, acting: &Acting) -> Pairs
         ensures { result.0 ≡ drifted acting.now self.now.0 }
     {
-        let [a, b, c, d, e, f, g, h, i, j] = *acting.ways();
-        let halted = self.halted(a);
+        let [a, b, c, d, e, f, g, h, i, j] = *acting.reach();
+        let halted = self.halted(acting.at_halt());
         Pairs([
             self.kept(Mode::Stop, a).or(halted),
             self.kept(Mode::Play, b),
@@ -144,27 +144,23 @@ impl Pairs {
         some
     }
 
-    /// The modes that a drift can show with a goal that it keeps, with these on the way to it.
-    fn kept(&self, goal: Mode, way: ModeSet) -> ModeSet
-        ensures { result ≡ kept_goal (shown_with self.now.0 goal) way goal }
+    /// The modes that a drift can show with a goal that it keeps, with these in its reach.
+    fn kept(&self, goal: Mode, reach: ModeSet) -> ModeSet
+        ensures { result ≡ kept_goal (shown_with self.now.0 goal) reach }
     {
         let shown = self.shown(goal);
         if shown.is_some() {
-            shown.or(ModeSet::just(goal)).or(way.and(ModeSet::ALL))
+            shown.or(reach)
         } else {
             shown
         }
     }
 
-    /// The modes that a deck can show that has come to a halt, with these on the way to STOP.
-    fn halted(&self, way: ModeSet) -> ModeSet
-        ensures { result ≡ halted self.now.0 way }
+    /// The modes that a deck can show that has come to a halt, with these in the reach of STOP.
+    fn halted(&self, reach: ModeSet) -> ModeSet
+        ensures { result ≡ halted self.now.0 reach }
     {
-        if self.is_some() {
-            ModeSet::just(Mode::Stop).or(way).and(ModeSet::ALL)
-        } else {
-            ModeSet::NONE
-        }
+        if self.is_some() { reach } else { ModeSet::NONE }
     }
 
     /// A pair from which a drift of the mechanics reaches one of these goals with one of these modes shown: None
@@ -208,8 +204,7 @@ impl Pairs {
         if kept.has(shown) {
             return Pair { goal, shown };
         }
-        let on_the_way = ModeSet::just(goal).or(acting.way(goal));
-        if kept.is_some() && on_the_way.has(shown) {
+        if kept.is_some() && acting.reach_with(goal).has(shown) {
             return Pair {
                 goal,
                 shown: kept.first(),

@@ -23,7 +23,7 @@ use crate::presets::Presets;
 use crate::start::Start;
 use crate::states::States;
 use block9::{Block, Command, Exchange};
-use deck9::{DeckRef, Going, Hands, Knowledge, ModeSet, Profile, Register, State};
+use deck9::{Going, Hands, Knowledge, ModeSet, Profile, Register, State};
 use sets25::{SpanSet, TimeSet};
 use std::alloc::{AllocError, Global};
 use std::marker::Model;
@@ -70,26 +70,30 @@ impl<'a, S: TimeSet> Tracker<'a, S> {
         ensures going { IfOk result (λ t. t.going ≡ on_at_first profile.now.deck) }
         ensures presets { IfOk result (λ t. (r : ARegister) → count_of r t.presets ≡ 0) }
     {
-        Tracker::begin(alloc, profile.rate, profile.hands, profile.deck_ref())
+        Tracker::begin(
+            alloc,
+            profile.rate,
+            profile.hands,
+            Acting::at_first(profile),
+        )
     }
 
-    /// The same at this rate, with hands or without, and for this deck, if there is one.
+    /// The same at this rate, with hands or without, and for what such a deck does of its own.
     pub(crate) fn begin(
         alloc: Global,
         rate: Rate,
         hands: Hands,
-        deck: DeckRef<'a>,
+        acting: Acting<'a>,
     ) -> Result<Self, AllocError>
-        ensures states { IfOk result (λ t. (s : AState) → Possible t.states s ↔ IsFirst (record { rate = rate; hands = hands; deck = deck.entry }) s) }
-        ensures profile { IfOk result (λ t. t.profile ≡ record { rate = rate; hands = hands; deck = deck.entry }) }
-        ensures going { IfOk result (λ t. t.going ≡ on_at_first deck.entry) }
+        ensures states { IfOk result (λ t. (s : AState) → Possible t.states s ↔ IsFirst (record { rate = rate; hands = hands; deck = acting.entry.deck }) s) }
+        ensures profile { IfOk result (λ t. t.profile ≡ record { rate = rate; hands = hands; deck = acting.entry.deck }) }
+        ensures going { IfOk result (λ t. t.going ≡ acting.entry.on) }
         ensures presets { IfOk result (λ t. (r : ARegister) → count_of r t.presets ≡ 0) }
     {
-        let going = deck.on_at_first();
         Ok(Tracker {
             states: States::first(alloc, rate, hands)?,
             presets: Presets::none(),
-            acting: Acting::new(deck, going),
+            acting,
             alloc,
         })
     }
@@ -106,12 +110,10 @@ impl<'a, S: TimeSet> Tracker<'a, S> {
     {
         let states = States::known_to_be(alloc, profile.rate, start)?;
         states.below_day();
-        let deck = profile.deck_ref();
-        let going = deck.on_at_first();
         Ok(Tracker {
             states,
             presets: Presets::none(),
-            acting: Acting::new(deck, going),
+            acting: Acting::at_first(profile),
             alloc,
         })
     }

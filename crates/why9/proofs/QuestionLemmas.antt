@@ -2,7 +2,8 @@
 use Rattle.why9.proofs.Words.{[], ap, append_assoc, AreReached, arith, before_the_first, behind_first, Bool, drop, drop-cons, drop-drop, Exchange}
 use Rattle.why9.proofs.Words.{false, Profile, HasBelieving, IsBelievingFrom, IsFirst, length, length-append, length-drop, length-take-le, List, nat_le, nat_tests, sym}
 use Rattle.why9.proofs.Words.{slice_index_or, slice_range, State, subst, suc, take, take-append-drop, take_rest, true, ArePassed, ArePassedTo, MayGo, HasBelievingFrom, HasBelievingFromPlace, ℕ, ◌++◌, ◌+◌, ◌-◌, ◌<◌}
-use Rattle.why9.proofs.Words.{◌↔◌, ◌∙◌, ◌∷◌, ◌≡◌, ◌≤◌}
+use Rattle.why9.proofs.Words.{◌==◌, ◌↔◌, ◌∙◌, ◌∷◌, ◌≡◌, ◌≤◌}
+use Rattle.std.specs.Prelude.{if◌then◌else◌}
 use Rattle.why9.proofs.Words.{DeckStep, done, Drift, drift_join, false≢true, Forgets, forgotten_with, Going, goes_on, Hands, ignored, is_nak, on_at_first, refl, refused}
 
 -- ---- what plays no part
@@ -100,9 +101,13 @@ keeps_all profile e s t nak = rw nak (λ same. same, λ same. same)
 keeps_going : (profile : Profile) (on : Going) (e : Exchange) → is_nak e.reply ≡ true → goes_on profile true e on ≡ on
 keeps_going profile on e nak = by_hands profile.hands refl
   where
+    same : (group : Bool) → (if group then on else on) ≡ on
+    same true = refl
+    same false = refl
+
     by_hands : (hands : Hands) → profile.hands ≡ hands → goes_on profile true e on ≡ on
     by_hands Hands.Allowed is = rw is refl
-    by_hands Hands.None is = rw (is, nak) refl
+    by_hands Hands.None is = rw (is, nak) (same (e.block.group == 2))
 
 -- it keeps the state and what may be going on, and the drift before it goes on in the next one
 goes-nak : (profile : Profile) (on : Going) (X : State → Type 0) (e : Exchange) (es : List Exchange) → is_nak e.reply ≡ true

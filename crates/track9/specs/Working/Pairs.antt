@@ -1,7 +1,7 @@
 -- How pairs of a goal and a shown mode change.
 use Rattle.std.specs.Prelude.{if◌then◌else◌, ◌∷◌}
 use Rattle.track9.specs.Working.Deck.{[], bit_of, Bool, both, Cued, either, Eject, FastForward, has, is_mode, is_some, Jog, List, Mode, modes, ModeSet, Play, Rec, Rewind, shown_with}
-use Rattle.track9.specs.Working.Acting.{Acted, way_by}
+use Rattle.track9.specs.Working.Acting.{Acted, reach_of}
 use Rattle.track9.specs.Working.Deck.{Shuttle, Stop, Var}
 
 -- the pairs that have these shown modes for each goal
@@ -33,23 +33,19 @@ goals_of pairs = all_shown (by_goal (goal_if_shown pairs))
 abbrev pub some_pair : List ModeSet → Bool
 some_pair pairs = is_some (all_shown pairs)
 
--- a set without bits above those of the ten modes
-abbrev pub ten_of : ModeSet → ModeSet
-ten_of s = both s (modes 0x3FF)
+-- the modes that a drift can show with a goal that it keeps, of these shown modes and with these in its reach
+abbrev pub kept_goal : ModeSet → ModeSet → ModeSet
+kept_goal s reach = if is_some s then either s reach else s
 
--- the modes that a drift can show with the goal g, which it keeps, of these shown modes and with these on the way to it
-abbrev pub kept_goal : ModeSet → ModeSet → Mode → ModeSet
-kept_goal s way g = if is_some s then either (either s (modes (bit_of g))) (ten_of way) else s
-
--- the modes that a deck can show that has come to a halt, with these on the way to STOP
+-- the modes that a deck can show that has come to a halt, with these in the reach of STOP
 abbrev pub halted : List ModeSet → ModeSet → ModeSet
-halted p way = if some_pair p then ten_of (either (modes (bit_of Stop)) way) else modes 0
+halted p reach = if some_pair p then reach else modes 0
 
 -- the modes that a drift can show with the goal g
 abbrev pub drifted_with : Acted → List ModeSet → Mode → ModeSet
 drifted_with acted p g =
-    if is_mode g Stop then either (kept_goal (shown_with p g) (way_by acted g) g) (halted p (way_by acted Stop))
-    else kept_goal (shown_with p g) (way_by acted g) g
+    if is_mode g Stop then either (kept_goal (shown_with p g) (reach_of acted g)) (halted p (reach_of acted Stop))
+    else kept_goal (shown_with p g) (reach_of acted g)
 
 -- the pairs that a drift can reach
 abbrev pub drifted : Acted → List ModeSet → List ModeSet

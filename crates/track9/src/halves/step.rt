@@ -29,29 +29,29 @@ impl<S: TimeSet> Halves<S> {
     {
         match acting.going().lost {
             Lost::NoRegister => self.take_quietly(alloc, acting, deed),
-            lost => self.take_lost(alloc, acting, deed, lost),
+            lost => self.take_lost(alloc, acting, *deed, lost),
         }
     }
 
     /// The same where registers may be lost: they are lost before the deed, and put back where memory is refused for that.
-    #[inline(never)] // as it is rare
+    #[inline(never)] // as it is rare; the deed by value, so that it needs no place in memory elsewhere
     fn take_lost(
         &mut self,
         alloc: Global,
         acting: &Acting,
-        deed: &Deed,
+        deed: Deed,
         lost: Lost,
     ) -> Result<bool, AllocError>
         requires whole { HalvesWhole (halves_rate self.old) self.old }
         requires lost { lost ≡ acting.now.on.lost }
-        ensures ok { OnOk result (Taken acting.now (halves_rate self.old) deed.now self.old self.new) }
+        ensures ok { OnOk result (Taken acting.now (halves_rate self.old) deed self.old self.new) }
         ensures some { IfOk result (λ b. b ≡ halves_remain self.new) }
         ensures err { OnErr result (self.new ≡ self.old) }
-        ensures frugal { IsTrue (is_frugal_deed deed.now) → IsOk result }
+        ensures frugal { IsTrue (is_frugal_deed deed) → IsOk result }
     {
         let (remote, local) = (self.remote.clears(), self.local.clears());
         self.lose(lost);
-        match self.take_quietly(alloc, acting, deed) {
+        match self.take_quietly(alloc, acting, &deed) {
             Ok(some) => Ok(some),
             Err(error) => {
                 self.remote.put_clears(remote);

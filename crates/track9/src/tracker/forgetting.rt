@@ -84,6 +84,9 @@ impl<'a, S: TimeSet> Tracker<'a, S> {
     fn go_on_after(&mut self, exchange: &Exchange)
         ensures { self.new ≡ record self.old { going = goes_on self.old.profile true exchange.now self.old.going } }
     {
+        if self.acting.is_still() {
+            return;
+        }
         let hands = self.states.hands();
         match hands {
             Hands::None => self.acting.go_on_after(exchange),

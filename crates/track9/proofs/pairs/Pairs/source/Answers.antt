@@ -1,7 +1,7 @@
 use Rattle.track9.proofs.pairs.Pairs.source.Goals.{else-is_some-via-then-is_some+else-has-2, else-is_some-via-else-is_some}
 use Rattle.track9.proofs.pairs.Pairs.source.Goals as goal
 use Rattle.track9.proofs.BeforeLemmas.{some_goal, some_shown, source_halted}
-use Rattle.track9.proofs.EntryLemmas.{drifted_from, pairs_some, way_comes}
+use Rattle.track9.proofs.EntryLemmas.{drifted_from, pairs_some, reach_has, way_comes}
 use Rattle.track9.proofs.Words.{is_mode-same, or_cases}
 use Rattle.std.proofs.Common.{arith}
 
@@ -15,4 +15,4 @@ pub returns : goal.returns
 returns = grind (arith, source_halted, else-is_some-via-then-is_some+else-has-2, else-is_some-via-else-is_some)
 
 pub returns-then-has-2 : goal.returns-then-has-2
-returns-then-has-2 c = grind (arith, c.or-on_the_way.ensures.has c.args.shown, c.just.ensures.one c.args.shown, is_mode-same c.args.shown c.args.goal, way_comes c.args.acting.now c.args.goal c.args.shown, or_cases)
+returns-then-has-2 c = grind (arith, reach_has c.args.acting.now c.args.goal c.args.shown, is_mode-same c.args.shown c.args.goal, way_comes c.args.acting.now c.args.goal c.args.shown, or_cases)

@@ -9,4 +9,4 @@ pub returns-clause-states : goal.returns-clause-states
 returns-clause-states g c = rw c.in_ok-states.ensures (λ s. start_exactly c.args.profile.now.deck c.args.profile.now.rate c.args.start.now s (rw (← c.in_ok-states.ensures) c.below_day.ensures))
 
 pub returns-clause-profile : goal.returns-clause-profile
-returns-clause-profile g c = rw (c.in_ok-states.ensures, c.new.ensures, c.deck_ref-deck.ensures) (ap (untouched c.args.profile.now.deck) (from_rate c.args.profile.now.rate c.args.start.now))
+returns-clause-profile g c = rw (c.in_ok-states.ensures, c.at_first.ensures) (ap (untouched c.args.profile.now.deck) (from_rate c.args.profile.now.rate c.args.start.now))
