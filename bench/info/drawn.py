@@ -2,7 +2,7 @@
 #
 #   drawn.py FOLDER SEED CLEAN FAULTS     writes so many clean sessions, and so many of each fault, as CSV; beside each NAME.csv.args has
 #                                         the word of the rate that it is asked with.
-import os, random, sys
+import collections, os, random, sys
 sys.path.insert(0, os.path.join(os.path.dirname(os.path.abspath(__file__)), '..', 'lib'))
 from blocks import ACK, bcd, block
 
@@ -231,8 +231,107 @@ def dropped(draw, exchanges):
     lost = draw.randrange(len(exchanges[0]), len(rows) - len(exchanges[-1]) - len(exchanges[-2]))
     return rows[:lost] + rows[lost + 1:]
 
+# The logger writes a byte twice, or two, each some microseconds after itself.
+def doubled(draw, exchanges):
+    rows = rows_of(exchanges)
+    for number in sorted(draw.sample(range(len(rows)), draw.choice([1, 1, 2])), reverse=True):
+        at, wire, byte = rows[number]
+        rows.insert(number + 1, (at + draw.randrange(1, 140), wire, byte))
+    return rows
+
+# The deck or the controller leaves a byte out of one of its blocks, nearly each time that it sends it. The second byte is not left out:
+# without it a block is another one each time.
+def short(draw, exchanges):
+    heads = collections.Counter(head for sent in exchanges for head in heads_of(sent))
+    often = sorted(head for head, count in heads.items() if count >= 8)
+    wanted = draw.choice(often)
+    first = wanted[1]
+    place = draw.choice([0, *range(2, first % 16 + 3)])
+    rows = []
+    for sent in exchanges:
+        for wire in 'CD':
+            own = [row for row in sent if row[1] == wire]
+            if own and (wire, own[0][2], own[1][2]) == wanted and draw.random() < 0.98:
+                own = [(*at, byte) for at, byte in zip([row[:2] for row in own], [row[2] for row in own[:place] + own[place + 1:]])]
+            rows += own
+    return rows
+
+def heads_of(sent):
+    for wire in 'CD':
+        own = [byte for _, other, byte in sent if other == wire]
+        if own:
+            yield wire, own[0], own[1]
+
+# A tap that loses bytes at random, up to one in 100, and four at least.
+def losses(draw, exchanges):
+    rows = rows_of(exchanges)
+    lost = set(draw.sample(range(len(exchanges[0]), len(rows) - len(exchanges[-1]) - len(exchanges[-2])), max(4, len(rows) // draw.choice([100, 300, 1000]))))
+    return [row for number, row in enumerate(rows) if number not in lost]
+
+# Each byte of a wire comes on the other too, some microseconds later, or those of both do.
+def echoed(draw, exchanges):
+    wires, most = draw.choice(['C', 'C', 'D', 'CD']), draw.randrange(1, 60)
+    rows = rows_of(exchanges)
+    return ordered(rows + [(at + draw.randrange(0, most), 'D' if wire == 'C' else 'C', byte) for at, wire, byte in rows if wire in wires])
+
+# The logger writes nothing for a time, from inside a block to inside another. Where what is left is one block, nobody can see it.
+def hole(draw, exchanges):
+    rows, begins, place = rows_of(exchanges), set(), 0
+    for sent in exchanges:
+        begins |= {place, place + sum(wire == 'C' for _, wire, _ in sent)}
+        place += len(sent)
+    inside = [number for number in range(len(rows) * 3 // 4) if number + 1 not in begins and number > 12]
+    first = draw.choice(inside)
+    until = rows[first][0] + draw.uniform(12e3, 500e3)
+    last = next((number for number in range(first + 2, len(rows)) if number not in begins and number - 1 != first and rows[number][0] >= until), None)
+    if not last:
+        return None
+    head = [byte for _, _, byte in rows[max(place for place in begins if place <= first):first + 1]]
+    rest = [byte for _, _, byte in rows[last:min(place for place in begins if place > last)]]
+    joined = head + rest
+    is_block = rows[first][1] == rows[last][1] and len(joined) > 2 and block(head[0] // 16, *joined[1:-1]) == joined
+    return None if is_block else rows[:first + 1] + rows[last:]
+
+# The deck's clock gains or loses by so much that replies come after the next command, or before their own, at 0.25 to 0.8 of the session.
+def crossed(draw, exchanges):
+    rows = rows_of(exchanges)
+    first, length = rows[0][0], rows[-1][0] - rows[0][0]
+    least, pause = 10**9, 10**9
+    for sent, after in zip(exchanges, exchanges[1:]):
+        asked = [at for at, wire, _ in sent if wire == 'C']
+        answered = [at for at, wire, _ in sent if wire == 'D']
+        least = min(least, answered[0] - asked[-1])
+        pause = min(pause, [at for at, wire, _ in after if wire == 'C'][-1] - answered[-1])
+    by = pause if draw.random() < 0.5 or least < 2200 else -least
+    by /= draw.uniform(0.25, 0.8)
+    return ordered([(int(at + by * (at - first) / length) + 10**5 if wire == 'D' else at + 10**5, wire, byte) for at, wire, byte in rows])
+
+# One preset of a drop frame session is a time that drop frame has not.
+def preset(draw, exchanges):
+    wrong = block(4, 0x14 + draw.randrange(2), bcd(draw.randrange(2)), 0x00, bcd(draw.choice([1, 5, 12, 59])), bcd(draw.randrange(24)))
+    place = draw.randrange(1, len(exchanges) - 1)
+    began = exchanges[place][0][0]
+    sent, now = exchange(draw, began, 290, 600, 100, wrong, ACK)
+    later = int(now - began) + 12000
+    moved = [[(at + later, wire, byte) for at, wire, byte in rest] for rest in exchanges[place:]]
+    return rows_of(exchanges[:place] + [sent] + moved)
+
 FAULTS = {'swapped': swapped, 'begins': headless, 'collects': collected, 'coarse': coarse, 'clocks': drifted, 'behind': behind,
-          'silence': silent, 'lost': dropped}
+          'silence': silent, 'lost': dropped, 'losses': losses, 'doubled': doubled, 'short': short, 'echo': echoed, 'hole': hole,
+          'crossed': crossed, 'preset': preset}
+# How many exchanges some of them need.
+FEWEST = {'clocks': 200, 'behind': 200, 'crossed': 500}
+
+# A session with a fault, and the rate that it is asked with. Where what was drawn can't have it, another is drawn.
+def fault_of(draw, name):
+    rate = '29.97df' if name == 'preset' else draw.choice(list(RATES))
+    pause = 7000 if name == 'clocks' else 500
+    for _ in range(1000):
+        exchanges = session(draw, rate, pause=pause)
+        if len(exchanges) >= FEWEST.get(name, 0):
+            rows = FAULTS[name](draw, exchanges)
+            if rows:
+                return rows, ASKED.get(rate, rate)
 
 def write(path, rows, rate):
     with open(path, 'w') as text:
@@ -246,15 +345,9 @@ def main(folder, seed, cleans, faults):
         draw = random.Random(f'{seed} clean {number}')
         rate = draw.choice(list(RATES))
         write(f'{folder}/clean-{number:04}.csv', clean(draw, session(draw, rate)), ASKED.get(rate, rate))
-    for name, fault in FAULTS.items():
+    for name in FAULTS:
         for number in range(faults):
-            draw = random.Random(f'{seed} {name} {number}')
-            rate = draw.choice(list(RATES))
-            pause = 7000 if name == 'clocks' else 500
-            exchanges = session(draw, rate, pause=pause)
-            while name in ('clocks', 'behind') and len(exchanges) < 200:
-                exchanges = session(draw, rate, pause=pause)
-            write(f'{folder}/{name}-{number:04}.csv', fault(draw, exchanges), ASKED.get(rate, rate))
+            write(f'{folder}/{name}-{number:04}.csv', *fault_of(random.Random(f'{seed} {name} {number}'), name))
     for number in range(faults):
         draw = random.Random(f'{seed} rate {number}')
         rate = draw.choice(list(RATES))

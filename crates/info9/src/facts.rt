@@ -69,16 +69,16 @@ fn put_second_line(text: &mut Vec<u8>, name: &str, us: u64) -> Result<(), AllocE
 
 /// Puts what is counted of the times told.
 fn put_told(text: &mut Vec<u8>, signs: &Signs) -> Result<(), AllocError> {
-    let told = &signs.turns.told;
-    put_count(text, "times told: ", told.times)?;
-    if told.times > 0 {
-        put_count(text, ", greatest frame ", u64::from(told.greatest))?;
-        put_count(text, ", with the drop frame flag ", told.flagged)?;
-        put_count(
-            text,
-            ", with a label that drop frame has not ",
-            told.undropped,
-        )?;
+    let (set, told) = (&signs.turns.set, &signs.turns.told);
+    let times = set.times.saturating_add(told.times);
+    put_count(text, "times told: ", times)?;
+    if times > 0 {
+        let greatest = u64::from(set.greatest.max(told.greatest));
+        put_count(text, ", greatest frame ", greatest)?;
+        let flagged = set.flagged.saturating_add(told.flagged);
+        put_count(text, ", with the drop frame flag ", flagged)?;
+        let undropped = set.undropped.saturating_add(told.undropped);
+        put_count(text, ", with a label that drop frame has not ", undropped)?;
     }
     put_text(text, "\n")
 }

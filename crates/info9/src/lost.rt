@@ -2,21 +2,46 @@
 ghost use Rattle.std.specs.Prelude.{◌≡◌, ◌+◌, ◌%◌};
 
 use crate::place::{Place, Seen, is_sent_by};
-use block9::BYTE_TIME_US;
+use crate::sign::{Seeming, Sign};
+use block9::{BYTE_TIME_US, Block};
 use capture9::Wire;
+
+/// What a block begins with.
+#[derive(Clone, Copy, PartialEq, Eq)]
+pub(crate) struct Head {
+    pub(crate) wire: Wire,
+    pub(crate) first: u8,
+    pub(crate) second: u8,
+}
+
+impl Head {
+    /// That of a whole block.
+    pub(crate) fn of(wire: Wire, block: &Block) -> Head {
+        let data = u8::try_from(block.bytes.len()).unwrap_or(0);
+        Head {
+            wire,
+            first: block.group.wrapping_mul(16) | data,
+            second: block.code,
+        }
+    }
+}
 
 /// A block that lacks a byte.
 #[derive(Clone, Copy, PartialEq, Eq)]
-pub struct LostByte {
+pub(crate) struct LostByte {
     /// The first record of what there is of the block.
-    pub block: Place,
+    pub(crate) block: Place,
     /// The record after which the byte is missing; none where it is the first of the block.
-    pub after: Option<Place>,
+    pub(crate) after: Option<Place>,
     /// The byte with which the sum is right.
-    pub byte: u8,
+    pub(crate) byte: u8,
+    /// What the block begins with.
+    pub(crate) head: Head,
+    /// How many of its bytes come before the missing one.
+    pub(crate) place: u8,
 }
 
-/// The blocks of a wire that lack a byte.
+/// The blocks that lack a byte.
 #[derive(Clone, Copy, PartialEq, Eq)]
 pub(crate) struct LostBytes {
     pub(crate) first: Option<LostByte>,
@@ -30,15 +55,38 @@ impl LostBytes {
         blocks: 0,
     };
 
-    /// With one more.
-    pub(crate) fn with(self, lost: Option<LostByte>) -> LostBytes {
-        let Some(lost) = lost else {
-            return self;
+    /// Takes the next.
+    pub(crate) fn take(&mut self, lost: LostByte) {
+        self.blocks = self.blocks.saturating_add(1);
+        self.first = match self.first {
+            Some(first) if first.block.record < lost.block.record => Some(first),
+            _ => Some(lost),
+        };
+    }
+
+    /// With others.
+    pub(crate) fn and(self, others: LostBytes) -> LostBytes {
+        let first = match (self.first, others.first) {
+            (Some(one), Some(another)) if another.block.record < one.block.record => Some(another),
+            (one, another) => one.or(another),
         };
         LostBytes {
-            first: Some(self.first.unwrap_or(lost)),
-            blocks: self.blocks.saturating_add(1),
+            first,
+            blocks: self.blocks.saturating_add(others.blocks),
         }
+    }
+
+    /// The sign that blocks lack a byte.
+    pub(crate) fn sign(&self) -> Option<Sign> {
+        let first = self.first?;
+        Some(Sign {
+            at: first.block,
+            what: Seeming::LostBytes {
+                byte: first.byte,
+                after: first.after,
+                blocks: self.blocks,
+            },
+        })
     }
 }
 
@@ -64,18 +112,45 @@ pub(crate) fn lost_in(piece: &[Seen], wire: Wire, usual_us: u64) -> Option<LostB
             Some(before) => (before, completing(sum, last.byte)),
             None => (*last, sum.wrapping_add(last.byte)),
         };
-        return Some(LostByte {
-            block: first.place,
-            after: Some(after.place),
-            byte,
-        });
+        return Some(lost_after(piece, wire, after, byte));
     }
     let byte = completing(sum, last.byte);
     (block_len(byte) == len && is_sent_by(wire, byte / 16)).then_some(LostByte {
         block: first.place,
         after: None,
         byte,
+        head: Head {
+            wire,
+            first: byte,
+            second: first.byte,
+        },
+        place: 0,
     })
+}
+
+/// The byte that a piece lacks after one of its bytes.
+fn lost_after(piece: &[Seen], wire: Wire, after: Seen, byte: u8) -> LostByte {
+    let first = piece.first().copied().unwrap_or_default();
+    let place = piece
+        .iter()
+        .filter(|seen| seen.place.record <= after.place.record)
+        .count();
+    let second = if place == 1 {
+        byte
+    } else {
+        piece.get(1).map_or(0, |seen| seen.byte)
+    };
+    LostByte {
+        block: first.place,
+        after: Some(after.place),
+        byte,
+        head: Head {
+            wire,
+            first: first.byte,
+            second,
+        },
+        place: u8::try_from(place).unwrap_or(u8::MAX),
+    }
 }
 
 /// The byte before the widest time between two neighbours, where that has room for a byte more: half as much again as a byte takes.

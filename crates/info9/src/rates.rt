@@ -1,4 +1,5 @@
 //! Which frame rates fit the times that are told.
+ghost use Rattle.std.specs.Prelude.{◌≡◌, ◌<◌};
 
 use crate::place::Place;
 use crate::running::Running;
@@ -28,8 +29,14 @@ pub enum Fitting {
     Thirty,
 }
 
-/// The sign that the rate asked with does not fit, and another does.
-pub(crate) fn sign_of_rate(asked: Rate, told: &Told, running: &Running) -> Option<Sign> {
+/// The sign that the rate asked with does not fit, and another does. Times in commands say something only where the deck's clock told none.
+pub(crate) fn sign_of_rate(
+    asked: Rate,
+    set: &Told,
+    told: &Told,
+    running: &Running,
+) -> Option<Sign> {
+    let told = &told_of(set, told);
     let fits = fitting_of(asked, told, running)?;
     let is_asked = match fits {
         Fitting::One(rate) => rate == asked,
@@ -43,15 +50,28 @@ pub(crate) fn sign_of_rate(asked: Rate, told: &Told, running: &Running) -> Optio
     Some(Sign { at: at?, what })
 }
 
+/// The times that tell the rate: those of the deck, where its clock told one; else those in commands besides.
+fn told_of(set: &Told, told: &Told) -> Told
+    ensures { 0 < told.now.by_clock → result ≡ told.now }
+{
+    if told.by_clock > 0 {
+        *told
+    } else if told.times > 0 {
+        told.and(set)
+    } else {
+        *set
+    }
+}
+
 /// The rates that fit, as far as the times tell: frames that elapse say more than the greatest one, which may be an invalid time.
 fn fitting_of(asked: Rate, told: &Told, running: &Running) -> Option<Fitting> {
-    let is_flagged = told.times >= 3 && told.flagged > told.times / 2;
+    let is_flagged = told.is_flagged();
     match (running.in_second(), told.greatest) {
         (Some(24), _) => Some(Fitting::One(Rate::Fps24)),
         (Some(25), _) => Some(Fitting::One(Rate::Fps25)),
         (None, 24) if asked == Rate::Fps24 => Some(Fitting::One(Rate::Fps25)),
         (None, ..25) if !is_flagged => None,
-        _ if told.undropped > 0 => Some(Fitting::One(Rate::Fps30)),
+        _ if told.is_undropped() => Some(Fitting::One(Rate::Fps30)),
         _ if is_flagged => Some(Fitting::One(Rate::DropFrame)),
         _ => Some(Fitting::Thirty),
     }

@@ -2,12 +2,12 @@
 
 use crate::place::Place;
 use crate::rates::{Fitting, RateSeen};
-use crate::text::{put_fitting, put_rate_seen};
-use block9::BYTE_TIME_US;
-use report9::{put_count, put_hex, put_text};
+use crate::sign_text::put_seen;
+use crate::text::put_fitting;
+use capture9::Wire;
+use report9::{put_count, put_text};
 use std::alloc::AllocError;
 use tc25::Rate;
-use text9::put_seconds;
 
 /// Something in a capture to look at before anybody is blamed.
 #[derive(Clone, Copy, PartialEq, Eq)]
@@ -16,6 +16,34 @@ pub struct Sign {
     pub at: Place,
     /// What was seen.
     pub what: Seeming,
+}
+
+/// An echo of a wire.
+#[derive(Clone, Copy, PartialEq, Eq)]
+pub struct EchoSeen {
+    /// The wire whose bytes come on the other too.
+    pub wire: Wire,
+    /// How many of them do.
+    pub bytes: u64,
+    /// How many it carries.
+    pub of: u64,
+    /// How much later they come at most, in microseconds.
+    pub most_us: u64,
+}
+
+/// A block that its sender sends short.
+#[derive(Clone, Copy, PartialEq, Eq)]
+pub struct ShortSeen {
+    /// The wire that carries it.
+    pub wire: Wire,
+    /// Its first two bytes.
+    pub head: [u8; 2],
+    /// How many of its bytes come before the one that is missing.
+    pub place: u8,
+    /// How often it is short.
+    pub blocks: u64,
+    /// How often it comes from then on.
+    pub of: u64,
 }
 
 /// What was seen. Times are in microseconds.
@@ -28,10 +56,28 @@ pub enum Seeming {
     },
     /// The capture begins inside a block, or with a reply.
     BeginsInside,
+    /// The bytes of a wire come on the other wire too.
+    Echo(EchoSeen),
+    /// For so long neither wire carries a byte, from inside one block to inside another: the longest of so many.
+    Hole {
+        us: u64,
+        holes: u64,
+    },
     /// The bytes of so many blocks come closer than a byte lasts, the closest so far apart.
     CollectsBytes {
         least_us: u64,
         blocks: u64,
+    },
+    /// A byte comes again so long after itself, and the sum of its block is right without it: the first of so many.
+    WrittenTwice {
+        byte: u8,
+        us: u64,
+        bytes: u64,
+    },
+    /// So many bytes come closer to the one before them than a byte lasts, the closest so close.
+    CloseBytes {
+        least_us: u64,
+        bytes: u64,
     },
     /// All times are whole multiples of this step after the first.
     CoarseTimes {
@@ -59,6 +105,8 @@ pub enum Seeming {
         from_us: u64,
         to_us: u64,
     },
+    /// The same block lacks a byte at the same place most times that it comes.
+    SentShort(ShortSeen),
     /// A block ends early, and its sum is right with this byte after that record, or before the block: the first of so many.
     LostBytes {
         byte: u8,
@@ -81,7 +129,7 @@ impl Sign {
         put_text(line, name)?;
         put_count(line, ", at record ", u64::from(self.at.record))?;
         put_text(line, ": ")?;
-        self.what.put_seen(line)?;
+        put_seen(line, &self.what)?;
         put_text(line, "; ")?;
         put_text(line, meaning)?;
         if let Seeming::WrongRate { fits, .. } = self.what {
@@ -99,10 +147,26 @@ impl Seeming {
                 "the wires are swapped",
                 "swap C and D before anything is judged",
             ),
+            Seeming::Echo(_) => (
+                "an echo",
+                "tap each wire at its sender, or take the second copy out, before anything is judged",
+            ),
+            Seeming::Hole { .. } => (
+                "a hole in both wires",
+                "the logger wrote nothing there, and what breaks there is nobody's",
+            ),
             Seeming::BeginsInside => ("begins inside traffic", "ask with --sync"),
             Seeming::CollectsBytes { .. } => (
                 "the tap collects bytes",
                 "L1, L2, P3 and B3 say nothing here",
+            ),
+            Seeming::WrittenTwice { .. } => (
+                "a byte written twice",
+                "the logger wrote it twice, and what breaks there is not the sender's",
+            ),
+            Seeming::CloseBytes { .. } => (
+                "bytes too close",
+                "no line carries them so, and what breaks there is not the sender's",
             ),
             Seeming::CoarseTimes { .. } => (
                 "coarse times",
@@ -121,106 +185,14 @@ impl Seeming {
                 "silence",
                 "the deck is off or out of reach, or its wire is not tapped",
             ),
+            Seeming::SentShort(_) => (
+                "a block sent short",
+                "a tap loses bytes at random, so its sender sends it so",
+            ),
             Seeming::LostBytes { .. } => (
                 "lost bytes",
                 "the tap or the line lost it, and what breaks there is not the sender's",
             ),
         }
     }
-
-    /// Puts what was seen, with its numbers.
-    fn put_seen(&self, line: &mut Vec<u8>) -> Result<(), AllocError> {
-        match *self {
-            Seeming::WiresSwapped { controller, deck } => put_swapped(line, controller, deck),
-            Seeming::BeginsInside => put_text(
-                line,
-                "no command with a right checksum begins there",
-            ),
-            Seeming::CollectsBytes { least_us, blocks } => {
-                put_count(line, "bytes of one block come ", least_us)?;
-                put_count(line, " us apart, where one lasts ", BYTE_TIME_US)?;
-                put_count(line, " us on the line, in ", blocks)?;
-                put_text(line, " blocks")
-            }
-            Seeming::CoarseTimes { step_us } => {
-                put_count(line, "all times come in steps of ", step_us)?;
-                put_text(line, " us after it")
-            }
-            Seeming::TwoClocks { from_us, to_us } => put_moves(line, from_us, to_us),
-            Seeming::WrongRate { asked, seen, .. } => put_rate_seen(line, asked, seen),
-            Seeming::OneBehind { replies, of } => {
-                put_count(line, "", replies)?;
-                put_count(line, " of ", of)?;
-                put_text(
-                    line,
-                    " replies that tell fit the command before theirs and not their own",
-                )
-            }
-            Seeming::Silence {
-                commands,
-                from_us,
-                to_us,
-            } => put_silence(line, commands, from_us, to_us),
-            Seeming::LostBytes {
-                byte,
-                after,
-                blocks,
-            } => put_lost(line, byte, after, blocks),
-        }
-    }
-}
-
-/// Puts how many blocks came on the wrong one of the two wires.
-fn put_swapped(line: &mut Vec<u8>, controller: u64, deck: u64) -> Result<(), AllocError> {
-    put_count(
-        line,
-        "blocks of a deck on the controller's wire: ",
-        controller,
-    )?;
-    put_count(line, ", of a controller on the deck's: ", deck)
-}
-
-/// Puts from where to where the least delay moves.
-fn put_moves(line: &mut Vec<u8>, from_us: u64, to_us: u64) -> Result<(), AllocError> {
-    put_count(
-        line,
-        "the least delay of a reply moves steadily from ",
-        from_us,
-    )?;
-    put_count(line, " to ", to_us)?;
-    put_text(line, " us")
-}
-
-/// Puts how many commands in a row have no reply, and from when to when.
-fn put_silence(
-    line: &mut Vec<u8>,
-    commands: u32,
-    from_us: u64,
-    to_us: u64,
-) -> Result<(), AllocError> {
-    put_count(line, "", u64::from(commands))?;
-    put_text(line, " commands in a row without a reply, from ")?;
-    put_seconds(line, from_us)?;
-    put_text(line, " s to ")?;
-    put_seconds(line, to_us)?;
-    put_text(line, " s")
-}
-
-/// Puts which byte a block lacks, and after which record.
-fn put_lost(
-    line: &mut Vec<u8>,
-    byte: u8,
-    after: Option<Place>,
-    blocks: u64,
-) -> Result<(), AllocError> {
-    put_text(
-        line,
-        "the block ends early, and its checksum is right with ",
-    )?;
-    put_hex(line, u32::from(byte))?;
-    match after {
-        Some(after) => put_count(line, " after record ", u64::from(after.record))?,
-        None => put_text(line, " before it")?,
-    }
-    put_count(line, ", the first of ", blocks)
 }

@@ -1,11 +1,14 @@
 //! What a capture shows of itself, one record after another.
 
+use crate::damage::Damage;
+use crate::echo::Echo;
 use crate::place::{Place, Seen};
 use crate::rates::sign_of_rate;
 use crate::sign::{Seeming, Sign};
 use crate::step::Step;
 use crate::turns::Turns;
 use crate::wire_counts::WireCounts;
+use block9::BYTE_GAP_US;
 use capture9::{LineByte, Wire};
 use report9::Beginning;
 use tc25::Rate;
@@ -15,6 +18,9 @@ const HANDFUL: u64 = 5;
 
 /// From this step on times are coarse, in microseconds.
 const COARSE_US: u64 = 1_000;
+
+/// How many signs there may be.
+pub const MOST_SIGNS: usize = 11;
 
 /// The records of a capture so far, and what they show. Its size is fixed: it takes no memory as it goes.
 #[derive(Drop)]
@@ -28,6 +34,8 @@ pub struct Signs {
     pub(crate) controller: WireCounts,
     pub(crate) deck: WireCounts,
     pub(crate) turns: Turns,
+    damage: Damage,
+    echo: Echo,
     /// Whether a whole command begins with record 1.
     is_begun: bool,
 }
@@ -44,6 +52,8 @@ impl Signs {
             controller: WireCounts::new(Wire::Controller),
             deck: WireCounts::new(Wire::Deck),
             turns: Turns::new(rate),
+            damage: Damage::NONE,
+            echo: Echo::NONE,
             is_begun: false,
         }
     }
@@ -55,21 +65,35 @@ impl Signs {
             time_us: record.time_us,
         };
         self.first = self.first.or(Some((place, record.wire)));
+        if place.time_us.saturating_sub(self.last.time_us) > BYTE_GAP_US {
+            self.take_silence(place);
+        }
         self.last = place;
         self.step.take(record.time_us);
         let seen = Seen {
             place,
             byte: record.byte,
         };
+        self.echo.take(record.wire, seen);
         match record.wire {
             Wire::Controller => self.take_controller(seen),
             Wire::Deck => self.take_deck(seen),
         }
     }
 
+    /// Takes a silence of both wires, which this record ends.
+    fn take_silence(&mut self, to: Place) {
+        let from = self.last;
+        let (controller, deck) = (&self.controller.cutter, &self.deck.cutter);
+        let lacking = controller.lacking_after(from).max(deck.lacking_after(from));
+        if lacking > 0 {
+            self.damage.take_silence(from, to, lacking);
+        }
+    }
+
     /// Takes a byte of the controller.
     fn take_controller(&mut self, seen: Seen) {
-        if let Some(whole) = self.controller.take(seen) {
+        if let Some(whole) = self.controller.take(seen, &mut self.damage) {
             self.is_begun |= whole.first.record == 1;
             self.deck.cutter.take_other(whole.first);
             self.turns.take_command(&whole);
@@ -79,31 +103,69 @@ impl Signs {
     /// Takes a byte of the deck.
     fn take_deck(&mut self, seen: Seen) {
         self.turns.awaited.take_deck();
-        if let Some(whole) = self.deck.take(seen) {
+        if let Some(whole) = self.deck.take(seen, &mut self.damage) {
             self.controller.cutter.take_other(whole.first);
             self.turns.take_reply(&whole);
         }
     }
 
-    /// The signs that the records so far show. Where the wires are swapped, no sign is looked for that depends on whose wire is which.
-    pub fn signs(&self) -> [Option<Sign>; 8] {
-        let swapped = self.wires_swapped();
-        let told = self.coarse_times();
-        let close = self.collects_bytes().filter(|_| told.is_none());
-        if swapped.is_some() {
-            return [swapped, close, told, None, None, None, None, None];
+    /// The signs that the records so far show. Where the wires are swapped, or one comes again on the other, no sign is looked for that
+    /// depends on whose wire is which.
+    pub fn signs(&self) -> [Option<Sign>; MOST_SIGNS] {
+        let damage = self.damage_at_end();
+        let coarse = self.coarse_times();
+        let close = self.collects_bytes().filter(|_| coarse.is_none());
+        let is_timed = coarse.is_none() && close.is_none();
+        let twice = self.written_twice(&damage).filter(|_| is_timed);
+        let (controller, deck) = (self.controller.records, self.deck.records);
+        let crossed = self.wires_swapped().or(self.echo.sign(controller, deck));
+        let mut signs = [None; MOST_SIGNS];
+        signs[0] = crossed;
+        signs[1] = close;
+        signs[2] = twice;
+        signs[3] = coarse;
+        if crossed.is_some() {
+            return signs;
         }
-        let (turns, rate) = (&self.turns, self.rate);
-        [
-            self.begins_inside(),
-            close,
-            told,
-            sign_of_rate(rate, &turns.told, &turns.running),
-            turns.awaited.sign(),
-            self.lost_bytes(),
-            turns.delays.sign(),
-            turns.fits.sign(),
-        ]
+        let turns = &self.turns;
+        let clocks = turns.clocks.sign(is_timed);
+        let is_short_command = damage.shorts.is_sent_on(Wire::Controller);
+        signs[0] = self.begins_inside().filter(|_| !is_short_command);
+        signs[4] = damage.holes.sign();
+        signs[5] = sign_of_rate(self.rate, &turns.set, &turns.told, &turns.running);
+        signs[6] = clocks;
+        signs[7] = turns.awaited.sign();
+        signs[8] = damage.shorts.sign();
+        signs[9] = damage.shorts.lost().sign();
+        signs[10] = turns.fits.sign().filter(|_| clocks.is_none());
+        signs
+    }
+
+    /// The damage, with what ended before the end of the capture.
+    fn damage_at_end(&self) -> Damage {
+        let mut damage = self.damage;
+        for wire in [&self.controller, &self.deck] {
+            if let Some(piece) = wire.cutter.last_piece() {
+                damage.take_piece(&piece);
+            }
+        }
+        damage.end();
+        damage
+    }
+
+    /// Bytes were written twice, or else some are closer than a byte lasts.
+    fn written_twice(&self, damage: &Damage) -> Option<Sign> {
+        let (controller, deck) = (&self.controller.close_bytes, &self.deck.close_bytes);
+        let twice = damage.twice.sign();
+        if twice.is_some() {
+            return twice;
+        }
+        let what = Seeming::CloseBytes {
+            least_us: controller.least_us.min(deck.least_us),
+            bytes: controller.bytes.saturating_add(deck.bytes),
+        };
+        let at = earlier(controller.first, deck.first)?;
+        Some(Sign { at, what })
     }
 
     /// Both wires carry the other's groups, and more of them than their own.
@@ -144,24 +206,6 @@ impl Signs {
         let (at, _) = self.first?;
         let what = Seeming::CoarseTimes { step_us };
         (step_us >= COARSE_US).then_some(Sign { at, what })
-    }
-
-    /// Blocks lack a byte.
-    fn lost_bytes(&self) -> Option<Sign> {
-        let (controller, deck) = (self.controller.cutter.lost(), self.deck.cutter.lost());
-        let blocks = controller.blocks.saturating_add(deck.blocks);
-        let lost = match (controller.first, deck.first) {
-            (Some(one), Some(another)) if another.block.record < one.block.record => another,
-            (Some(one), _) => one,
-            (None, another) => another?,
-        };
-        let (at, byte, after) = (lost.block, lost.byte, lost.after);
-        let what = Seeming::LostBytes {
-            byte,
-            after,
-            blocks,
-        };
-        Some(Sign { at, what })
     }
 }
 

@@ -26,10 +26,12 @@ pub(crate) struct Silences {
 }
 
 impl Silences {
-    /// Takes the wire's next record.
-    pub(crate) fn take(&mut self, to: Place) {
-        let last_us = self.last_us.unwrap_or(to.time_us);
-        let us = to.time_us.saturating_sub(last_us);
+    /// Takes the wire's next record, and answers how long after the one before it it comes, in microseconds; none of the first.
+    pub(crate) fn take(&mut self, to: Place) -> Option<u64> {
+        let since_us = self
+            .last_us
+            .map(|last_us| to.time_us.saturating_sub(last_us));
+        let us = since_us.unwrap_or(0);
         self.last_us = Some(to.time_us);
         let [first, second, third] = self.longest;
         let silence = Silence { us, to };
@@ -40,6 +42,7 @@ impl Silences {
         } else if us > third.us {
             self.longest = [first, second, silence];
         }
+        since_us
     }
 }
 

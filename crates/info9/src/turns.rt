@@ -1,7 +1,7 @@
 //! The turns of the line: which command a reply comes to, how long it takes, and what both tell.
 
+use crate::clocks::Clocks;
 use crate::cutter::WholeBlock;
-use crate::delays::Delays;
 use crate::fits::Fits;
 use crate::label::{Label, command_in, tells_label};
 use crate::running::Running;
@@ -21,8 +21,11 @@ pub(crate) struct Turns {
     /// When the last byte of the last command came, in microseconds; none once it is answered.
     asked_us: Option<u64>,
     pub(crate) awaited: Awaited,
-    pub(crate) delays: Delays,
+    pub(crate) clocks: Clocks,
     pub(crate) fits: Fits,
+    /// The times in commands.
+    pub(crate) set: Told,
+    /// Those that the deck told.
     pub(crate) told: Told,
     pub(crate) running: Running,
 }
@@ -36,8 +39,9 @@ impl Turns {
             before: None,
             asked_us: None,
             awaited: Awaited::NONE,
-            delays: Delays::new(),
+            clocks: Clocks::new(),
             fits: Fits::NONE,
+            set: Told::NONE,
             told: Told::NONE,
             running: Running::NONE,
         }
@@ -45,22 +49,28 @@ impl Turns {
 
     /// Takes a whole block of the controller.
     pub(crate) fn take_command(&mut self, whole: &WholeBlock) {
+        if self.asked_us.is_some() {
+            self.clocks.cross();
+        }
         self.before = self.asked;
         self.asked = command_in(&whole.block);
         self.asked_us = Some(whole.last.time_us);
         self.awaited.take_command(whole.first);
         if self.asked.is_some_and(|command| command.time().is_some()) {
-            let _ = self.tell(whole);
+            if let Some(label) = self.label_of(whole) {
+                self.set.take(&label, false);
+            }
         }
     }
 
     /// Takes a whole block of the deck. Only the first after a command is its reply.
     pub(crate) fn take_reply(&mut self, whole: &WholeBlock) {
         let Some(asked_us) = self.asked_us else {
+            self.clocks.cross();
             return;
         };
         self.asked_us = None;
-        self.delays.take(whole.first, asked_us);
+        self.clocks.take(whole.first, asked_us);
         let Some(command) = self.asked else {
             return;
         };
@@ -69,17 +79,23 @@ impl Turns {
             self.fits.take(whole.first, reply, &command, &before);
         }
         if tells_label(&command, &whole.block) {
-            let label = self.tell(whole);
-            if let (Command::CurrentTimeSense { .. }, Some(label)) = (command, label) {
-                self.running.take(label);
+            let is_clock = matches!(command, Command::CurrentTimeSense { .. });
+            if let Some(label) = self.label_of(whole) {
+                self.tell(label, is_clock);
             }
         }
     }
 
-    /// Takes the time that a block tells.
-    fn tell(&mut self, whole: &WholeBlock) -> Option<Label> {
-        let label = Label::of(self.rate, &whole.block, whole.first)?;
-        self.told.take(&label);
-        Some(label)
+    /// The time that a block tells.
+    fn label_of(&self, whole: &WholeBlock) -> Option<Label> {
+        Label::of(self.rate, &whole.block, whole.first)
+    }
+
+    /// Takes a time that the deck tells: of its clock, or of a register.
+    fn tell(&mut self, label: Label, is_clock: bool) {
+        self.told.take(&label, is_clock);
+        if is_clock {
+            self.running.take(label);
+        }
     }
 }

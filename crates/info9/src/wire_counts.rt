@@ -1,14 +1,11 @@
 //! What is counted of one wire: its records, its blocks, and its silences.
 
 use crate::cutter::{Cutter, WholeBlock};
+use crate::damage::Damage;
 use crate::place::{Place, Seen, is_sent_by, other};
 use crate::silence::Silences;
-use block9::BYTE_TIME_US;
+use crate::twice::{CLOSE_US, CloseBytes};
 use capture9::Wire;
-
-/// The time, in microseconds, that no line can come below between two bytes of a block: half of what a byte lasts, so that neither a fast
-/// line nor a tap's jitter does.
-const CLOSE_US: u64 = BYTE_TIME_US / 2;
 
 /// What is counted of one wire.
 #[derive(Drop)]
@@ -27,6 +24,8 @@ pub(crate) struct WireCounts {
     pub(crate) first_close: Option<Place>,
     /// The least time between two bytes of a block, in microseconds.
     pub(crate) least_us: u64,
+    /// Those of all bytes that are so close, in blocks or not.
+    pub(crate) close_bytes: CloseBytes,
 }
 
 impl WireCounts {
@@ -43,14 +42,17 @@ impl WireCounts {
             close: 0,
             first_close: None,
             least_us: u64::MAX,
+            close_bytes: CloseBytes::NONE,
         }
     }
 
-    /// Takes the wire's next byte, and answers the block that it completes, if it does.
-    pub(crate) fn take(&mut self, seen: Seen) -> Option<WholeBlock> {
+    /// Takes the wire's next byte, and answers the block that it completes, if it does. What is damaged goes to what is of both wires.
+    pub(crate) fn take(&mut self, seen: Seen, damage: &mut Damage) -> Option<WholeBlock> {
         self.records = self.records.saturating_add(1);
-        self.silences.take(seen.place);
-        let whole = self.cutter.take(seen)?;
+        let since_us = self.silences.take(seen.place).unwrap_or(u64::MAX);
+        self.close_bytes.take(since_us, seen.place);
+        let whole = self.cutter.take(seen, since_us, damage)?;
+        damage.take_whole(self.wire, &whole);
         self.count(&whole);
         Some(whole)
     }

@@ -52,7 +52,10 @@ fn put_sign(lines: &mut Vec<u8>, sign: &Sign) -> Result<(), AllocError> {
 fn bears_on_answers(what: &Seeming) -> bool {
     matches!(
         what,
-        Seeming::WrongRate { .. } | Seeming::WiresSwapped { .. } | Seeming::BeginsInside
+        Seeming::WrongRate { .. }
+            | Seeming::WiresSwapped { .. }
+            | Seeming::Echo(_)
+            | Seeming::BeginsInside
     )
 }
 

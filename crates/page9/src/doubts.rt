@@ -1,17 +1,17 @@
 //! Which reasons are in doubt: a sign of the capture says that something else than the deck or the controller may be at fault.
 
 use block9::Reason;
-use info9::{Seeming, Sign};
+use info9::{MOST_SIGNS, Seeming, Sign};
 
 /// The signs that a capture shows, as far as they put reasons in doubt.
 #[derive(Clone, Copy)]
 pub(crate) struct Doubts {
-    signs: [Option<Sign>; 8],
+    signs: [Option<Sign>; MOST_SIGNS],
 }
 
 impl Doubts {
     /// What these signs put in doubt.
-    pub(crate) fn of(signs: &[Option<Sign>; 8]) -> Doubts {
+    pub(crate) fn of(signs: &[Option<Sign>; MOST_SIGNS]) -> Doubts {
         Doubts { signs: *signs }
     }
 
@@ -33,6 +33,18 @@ fn doubt_by(what: &Seeming, reason: Reason) -> Option<&'static str> {
         Seeming::WiresSwapped { .. } => (
             true,
             "In doubt: the two wires seem to be swapped. Swap them before any of this is believed.",
+        ),
+        Seeming::Echo(_) => (
+            true,
+            "In doubt: what one wire carries comes on the other too. Take the second copy out before any of this is believed.",
+        ),
+        Seeming::WrittenTwice { .. } | Seeming::CloseBytes { .. } => (
+            is_of_bytes(reason),
+            "In doubt: bytes come closer than a line carries them, so the logger made them, and a break there is not the sender's.",
+        ),
+        Seeming::Hole { .. } => (
+            is_of_bytes(reason) || is_of_time(reason),
+            "In doubt at a hole: for a time the logger wrote nothing, and a break there is nobody's. <code>ninecheck info</code> says where.",
         ),
         Seeming::BeginsInside => (
             is_of_beginning(reason),
@@ -61,6 +73,10 @@ fn doubt_by(what: &Seeming, reason: Reason) -> Option<&'static str> {
         Seeming::Silence { .. } => (
             reason == Reason::NoReply,
             "In doubt: for a time the deck was silent, off or out of reach. That is one fault, and not one a command.",
+        ),
+        Seeming::SentShort(_) => (
+            is_of_lost_byte(reason),
+            "In doubt: the same block comes a byte short most times, so its sender is at fault. <code>ninecheck info</code> names it.",
         ),
         Seeming::LostBytes { .. } => (
             is_of_lost_byte(reason),
@@ -103,6 +119,15 @@ fn is_of_rate(reason: Reason) -> bool {
         reason,
         Reason::InvalidCommandTime | Reason::InvalidReplyTime | Reason::NoRun
     )
+}
+
+/// Whether a byte too many, or bytes that are missing, may end in it.
+fn is_of_bytes(reason: Reason) -> bool {
+    is_of_lost_byte(reason)
+        || matches!(
+            reason,
+            Reason::ReplyWithoutCommand | Reason::WrongGroup | Reason::ByteGap
+        )
 }
 
 /// Whether a byte that is lost mostly ends in it.

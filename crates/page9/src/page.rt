@@ -10,7 +10,7 @@ use crate::known::put_known;
 use crate::span::{Span, Window};
 use capture9::{CaptureError, GREATEST_LIMIT, Records};
 use deck9::Profile;
-use info9::{Sign, Signs};
+use info9::{MOST_SIGNS, Sign, Signs};
 use report9::{Beginning, JudgeError, Stretch, WhyNo, write_all};
 use seen9::{Ending, ExplainedView, MoveSearch, SeenBreak, SeenExchange, View, ViewOf};
 use std::alloc::Global;
@@ -37,7 +37,7 @@ pub struct PageOf<'a> {
 /// What the last reading of a capture finds.
 #[derive(Clone, Copy)]
 struct Found {
-    signs: [Option<Sign>; 8],
+    signs: [Option<Sign>; MOST_SIGNS],
     /// The time of the first record, in microseconds; none where there is none.
     first_us: Option<u64>,
     /// That of the last.

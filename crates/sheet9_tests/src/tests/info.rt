@@ -181,7 +181,11 @@ fn sees_a_tap_that_collects(rt: HostRuntime) -> Result<(), Fail> {
             3,
             "look at: the tap collects bytes, at record 1: bytes of one block come 100 us apart, where one lasts 287 us on the line, in 6 blocks; L1, L2, P3 and B3 say nothing here\n",
         ),
-        (100, 2, ""),
+        (
+            100,
+            2,
+            "look at: bytes too close, at record 2: a byte comes 100 us after the one before it on its wire, where one lasts 287 us on the line, the closest of 8; no line carries them so, and what breaks there is not the sender's\n",
+        ),
         (143, 3, ""),
         (
             1000,
@@ -303,6 +307,28 @@ fn sees_two_clocks(rt: HostRuntime) -> Result<(), Fail> {
         holds(&rt, rt.alloc(), &tap, signs)?;
     }
     Ok(())
+}
+
+#[test]
+fn sees_two_clocks_before_replies_and_commands_cross(rt: HostRuntime) -> Result<(), Fail> {
+    let mut tap = Tap::new(rt.alloc(), 300)?;
+    for turn in 0..80u64 {
+        tap.put("C 20 01 21")?;
+        tap.time_us = tap
+            .time_us
+            .saturating_add(turn.saturating_mul(20).saturating_add(700));
+        tap.put("D 10 01 11")?;
+    }
+    tap.put("C 61 20 01 82")?;
+    for _ in 0..4 {
+        tap.put("C 00 11 11 D 71 20 01 92 C 61 20 01 82 D 12 11 70 01 94")?;
+    }
+    holds(
+        &rt,
+        rt.alloc(),
+        &tap,
+        "look at: two clocks, at record 4: the least delay of a reply moves steadily from 1000 to 2440 us; the wires do not share a clock, so L1, L2 and P3 say nothing here\n",
+    )
 }
 
 #[test]
