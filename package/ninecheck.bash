@@ -22,6 +22,14 @@ _ninecheck_options() {
     esac
 }
 
+# _ninecheck_sheets WORD: the sheets inside the program, for a word whose --deck is a sheet.
+_ninecheck_sheets() {
+    case $1 in
+        saleae | log) ;;
+        *) echo '9pin edit eject jog no-bit rewind standby user-bits var-play' ;;
+    esac
+}
+
 _ninecheck() {
     local word=${COMP_WORDS[COMP_CWORD]} before=${COMP_WORDS[COMP_CWORD - 1]} asked=${COMP_WORDS[1]}
     local words='check explain run why convert split try digest delays motion touches picture page json clock info help'
@@ -47,7 +55,7 @@ _ninecheck() {
         --unit) mapfile -t COMPREPLY < <(compgen -W 'ms us' -- "$word") && return ;;
     esac
     case $before:$word in
-        --deck:*) mapfile -t COMPREPLY < <(compgen -f -- "$word") ;;
+        --deck:*) mapfile -t COMPREPLY < <(compgen -f -W "$(_ninecheck_sheets "$asked")" -- "$word") ;;
         *:-*) mapfile -t COMPREPLY < <(compgen -W "$(_ninecheck_options "$asked")" -- "$word") ;;
         *) mapfile -t COMPREPLY < <(compgen -f -- "$word") ;;
     esac

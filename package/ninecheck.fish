@@ -36,7 +36,7 @@ complete -c ninecheck -n '__ninecheck_asks digest delays motion page json; and n
 complete -c ninecheck -n '__ninecheck_asks digest delays motion page json; and not __fish_seen_subcommand_from run' -l to -x -d 'Show what comes before this time'
 complete -c ninecheck -n '__ninecheck_asks json; and not __fish_seen_subcommand_from check explain run why' -a 'check explain run why' -d 'The report that the objects are made of'
 complete -c ninecheck -n "__ninecheck_asks $judging info try" -l rate -x -a '24 25 30 29.97df' -d 'The frame rate of the machine, 25 if left out'
-complete -c ninecheck -n "__ninecheck_asks $judging try" -l deck -r -F -d 'A sheet of what this deck does of its own'
+complete -c ninecheck -n "__ninecheck_asks $judging try" -l deck -r -F -a '9pin edit eject jog no-bit rewind standby user-bits var-play' -d 'A sheet of what this deck does of its own'
 complete -c ninecheck -n '__ninecheck_asks why; and not __fish_seen_subcommand_from json' -l quiet -d 'Without the line that says what to ask next'
 complete -c ninecheck -n '__ninecheck_asks picture' -l at -x -d 'The record of the break'
 complete -c ninecheck -n '__ninecheck_asks picture' -l width -x -d 'The greatest width in pixels'

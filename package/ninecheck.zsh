@@ -51,7 +51,7 @@ fi
 local hands='--hands[somebody may have touched the panel of the deck]'
 local sync='--sync[the capture may begin inside a command or a reply]'
 local rate='--rate[the frame rate of the machine, 25 if left out]:rate:(24 25 30 29.97df)'
-local sheet='--deck[a sheet of what this deck does of its own]:sheet:_files'
+local sheet='*--deck[a sheet of what this deck does of its own]:sheet:{ compadd 9pin edit eject jog no-bit rewind standby user-bits var-play; _files }'
 local all='--all[go on after each break, and judge the whole capture]'
 local buffered='--line-buffered[write each line as soon as it is complete]'
 local bytes='--bytes[write each exchange with its bytes, as why does]'

@@ -589,8 +589,11 @@ $work: Is a directory"
 $work/no-capture.csv: No such file or directory"
     run $verb --deck
     judge "$verb and no sheet" [ "$status" = 2 -a ! -s "$work/out" ]
+    run $verb --deck "$work/ee.toml" "$work/capture.csv"
+    cp "$work/out" "$work/once"
+    once=$status
     run $verb --deck "$work/ee.toml" --deck "$work/ee.toml" "$work/capture.csv"
-    judge "$verb and two sheets" [ "$status" = 2 -a ! -s "$work/out" ]
+    judge "$verb and a sheet twice" eval '[ "$status" = "$once" ] && cmp -s "$work/once" "$work/out"'
 done
 
 # ---- The sheet is read before the capture is opened: nobody writes to this one, so whoever opens it waits.

@@ -191,7 +191,7 @@ pub(crate) fn make_page<R: Read + Drop, W: Write>(
     let page_of = PageOf {
         text: text.as_slice(),
         file: named.file.as_ref().map(|file| file.as_bytes()),
-        sheet: named.sheet.as_ref().map(|sheet| sheet.as_bytes()),
+        sheets: named.sheets.as_slice(),
         version: VERSION_LINE.as_bytes(),
         beginning: job.asked.beginning,
         stretch: job.asked.stretch,

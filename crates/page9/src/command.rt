@@ -55,9 +55,9 @@ fn put_options(options: &mut Vec<u8>, page: &PageOf<'_>, profile: &Profile) -> D
         put_option(options, "--rate ")?;
         put_text(options, profile.rate.word())?;
     }
-    if let Some(sheet) = page.sheet {
+    for sheet in page.sheets {
         put_option(options, "--deck ")?;
-        put_name(options, sheet)?;
+        put_name(options, sheet.as_bytes())?;
     }
     Ok(())
 }

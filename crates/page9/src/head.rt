@@ -226,10 +226,7 @@ fn put_judged_with(html: &mut Markup, page: &PageOf<'_>, profile: &Profile, opti
         frames,
         hands,
     ]);
-    match page.sheet {
-        Some(sheet) => html.put_woven(", deck sheet {t}", &[], &[sheet]),
-        None => html.put_mark(", no deck sheet"),
-    }
+    put_sheets(html, page.sheets);
     if page.beginning != Beginning::FirstRecord {
         html.put_mark(", from the first record that may begin a command");
     }
@@ -239,4 +236,16 @@ fn put_judged_with(html: &mut Markup, page: &PageOf<'_>, profile: &Profile, opti
         " <code>--all {t}</code></dd></dl>\n</div>\n"
     };
     html.put_woven(form, &[], &[options]);
+}
+
+/// Puts the files of the deck's sheets.
+fn put_sheets(html: &mut Markup, sheets: &[String]) {
+    let Some((first, others)) = sheets.split_first() else {
+        html.put_mark(", no deck sheet");
+        return;
+    };
+    html.put_woven(", deck sheet {t}", &[], &[first.as_bytes()]);
+    for sheet in others {
+        html.put_woven(" and {t}", &[], &[sheet.as_bytes()]);
+    }
 }

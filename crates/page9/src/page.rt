@@ -24,8 +24,8 @@ pub struct PageOf<'a> {
     pub text: &'a [u8],
     /// Its file; none where it came on the standard input.
     pub file: Option<&'a [u8]>,
-    /// The file of the deck's sheet, where there is one.
-    pub sheet: Option<&'a [u8]>,
+    /// The files of the deck's sheets.
+    pub sheets: &'a [String],
     /// The program's name and version, as a line.
     pub version: &'a [u8],
     /// With which record the judging begins.

@@ -1,1 +1,2 @@
 mod BufferLemmas
+pub mod SheetLemmas

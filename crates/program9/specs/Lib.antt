@@ -8,6 +8,7 @@ pub mod Output
 pub mod WholeLines
 pub mod Judging
 pub mod Sheet
+pub mod Shipped
 pub mod Status
 pub mod Version
 pub mod Program

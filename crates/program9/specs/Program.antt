@@ -37,12 +37,12 @@ pub record Streams (R S W : Type 0) : Type 1 where
 abbrev pub profile_of : Task → Option Deck → Profile
 profile_of task deck = record { rate = task.rate; hands = task.hands; deck = deck }
 
--- the judging of a task begins with this reader, this buffer and this job: the sheet was read and the capture opened; the buffer
+-- the judging of a task begins with this reader, this buffer and this job: the sheets were read and the capture opened; the buffer
 -- stands before the writer, holds nothing, and hands on each line at once exactly where the task says so; and the job is that of the
 -- task
 pub record Begins {R S W : Type 0} (streams : Streams R S W) (task : Task) (out : W) (reader : R) (buffer : Buffered W) (job : Job) : Type 0 where
   pub deck : Option Deck
-  pub finds : FindsDeck streams.opens_sheet streams.coming_sheet task.deck (Ok deck)
+  pub finds : FindsDeck streams.opens_sheet streams.coming_sheet task.sheets.items (Ok deck)
   pub opens : streams.opens task.file (Ok reader)
   pub is_behind : buffer.to ≡ out
   pub is_empty : buffer.held.bytes.items ≡ []
@@ -55,17 +55,17 @@ abbrev pub EndsUnbegun : {R : Type 0} → Option (String Global) → Result R Er
 EndsUnbegun file (Err e) end = end ≡ outcome_unopened file e
 EndsUnbegun file (Ok reader) end = end ≡ no_memory
 
--- the capture of a task, whose sheet was read, was opened, and the judging did not begin
+-- the capture of a task, whose sheets were read, was opened, and the judging did not begin
 pub record EndsOpening {R S W : Type 0} (streams : Streams R S W) (task : Task) (end : Outcome) : Type 0 where
   pub deck : Option Deck
-  pub finds : FindsDeck streams.opens_sheet streams.coming_sheet task.deck (Ok deck)
+  pub finds : FindsDeck streams.opens_sheet streams.coming_sheet task.sheets.items (Ok deck)
   pub opened : Result R Error
   pub is_opened : streams.opens task.file opened
   pub ends : EndsUnbegun task.file opened end
 
 -- the task ended so before its judging: its other file was not read, or the capture was opened, which it is only then
 abbrev pub EndsBefore : {R S W : Type 0} → Streams R S W → Task → Outcome → Type 0
-EndsBefore streams task end = EndsOther streams.opens_sheet streams.coming_sheet task.deck task.export.deck_file end ⊎ EndsOpening streams task end
+EndsBefore streams task end = EndsOther streams.opens_sheet streams.coming_sheet task.sheets.items task.export.deck_file end ⊎ EndsOpening streams task end
 
 -- the judging of the task began, and ended; where the header is at fault, the end tells the file and what stands in the place of the
 -- header: which bytes are shown of it is tested. If a write failed on the way, it failed with some kind of error, and this is the end

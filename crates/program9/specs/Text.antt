@@ -6,6 +6,7 @@ use Rattle.capture9.specs.Shown.{shown_text}
 use Rattle.capture9.specs.declared.shown_field.ShownField.{ShownField}
 use Rattle.seen9.specs.declared.drawn.WhyNothing.TheVariants as nothing
 use Rattle.sheet9.specs.Text as sheet
+use Rattle.program9.specs.declared.ending.ClashingSheets.{ClashingSheets}
 use Rattle.program9.specs.declared.ending.Message.{Message}
 use Rattle.program9.specs.declared.ending.Message.TheVariants as message
 use Rattle.program9.specs.Header.{header_found}
@@ -15,6 +16,10 @@ use Rattle.program9.specs.Word.{expected_of, file_name_of, first_line_of, notice
 abbrev pub found_text : Option ShownField → List ℕ
 found_text (Some field) = codes "; the row has " ++ shown_text field
 found_text None = []
+
+-- of two sheets that say different things, the later one, the key, and the earlier one
+abbrev pub clash_text : ClashingSheets → List ℕ
+clash_text told = string_bytes told.file ++ (codes ": " ++ (string_bytes told.key ++ (codes ": said otherwise in " ++ string_bytes told.earlier)))
 
 -- two lines, or what to look at besides the answers to several terms, or what to ask next, without a line feed at the end; nothing where
 -- there is a verdict, or the version was told, and nothing more to say
@@ -31,6 +36,7 @@ text_of (message.NothingToDraw (nothing.NoBreakAt at)) = codes "nothing to draw:
 text_of (message.ReadFault row) = codes "read fault at row " ++ decimal row ++ codes "\nexpected a capture that can be read to its end, not a directory"
 text_of (message.CannotOpen u) = first_line_of u.why ++ codes "\n" ++ file_name_of u.file ++ codes ": " ++ reason_of u.why
 text_of (message.UnreadableSheet u) = codes "unreadable deck sheet\n" ++ string_bytes u.file ++ codes ": " ++ sheet.text_of u.refusal
+text_of (message.ClashingSheets told) = codes "unreadable deck sheet\n" ++ clash_text told
 text_of (message.CannotOpenSheet u) = codes "cannot open\n" ++ file_name_of u.file ++ codes ": " ++ reason_of u.why
 text_of message.TextFault = codes "read fault\nthe text can't be read to its end"
 text_of message.WriteFault = codes "write fault\nstandard output is full or closed; it has only the first part of the report"

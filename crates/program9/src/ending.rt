@@ -32,6 +32,8 @@ pub enum Message {
     CannotOpen(Unopened),
     /// The deck's sheet is none.
     UnreadableSheet(UnreadSheet),
+    /// Two of the deck's sheets say different things of one key.
+    ClashingSheets(ClashingSheets),
     /// The deck's sheet was not opened, or its reader failed.
     CannotOpenSheet(Unopened),
     /// The text whose times are rewritten can't be read to its end.
@@ -49,6 +51,17 @@ pub struct UnreadSheet {
     pub file: String,
     /// What is wrong with its text.
     pub refusal: SheetRefusal,
+}
+
+/// Two sheets that say different things of one key.
+#[derive(Drop, PartialEq, Eq)]
+pub struct ClashingSheets {
+    /// The later one, by the name that the words give.
+    pub file: String,
+    /// The earlier one.
+    pub earlier: String,
+    /// The table and the key, as a text.
+    pub key: String,
 }
 
 /// What was refused of an export, or of a split.

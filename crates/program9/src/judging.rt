@@ -33,8 +33,8 @@ pub struct Job {
 pub struct Named {
     /// The file of the capture or the export; standard input where there is none.
     pub file: Option<String>,
-    /// That of the deck's sheet, where there is one.
-    pub sheet: Option<String>,
+    /// Those of the deck's sheets.
+    pub sheets: Vec<String>,
     /// What they say of an export or of a split.
     pub export: ExportWords,
     /// The text of the deck's file, where an export has a file for each wire.

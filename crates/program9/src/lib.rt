@@ -15,6 +15,7 @@ mod next;
 mod no_header;
 mod program;
 mod sheet;
+mod shipped;
 mod status;
 mod version;
 

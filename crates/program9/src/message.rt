@@ -2,11 +2,24 @@
 ghost use Rattle.std.specs.Prelude.{◌≡◌};
 ghost use Rattle.program9.specs.Word.{expected_of, file_name_of, first_line_of, notice_text, reason_of, refuser_word, word_of};
 
-use crate::ending::{Message, Notice, Refuser, WhyUnopened};
+use crate::ending::{ClashingSheets, Message, Notice, Refuser, WhyUnopened};
 use capture9::{CaptureKind, MOST_ROWS};
 use seen9::WhyNothing;
 use std::fmt;
 use words9::Export;
+
+impl fmt::Display for ClashingSheets {
+    ghost use Rattle.std.specs.Prelude.{Some};
+    ghost use Rattle.program9.specs.Text.{clash_text};
+
+    ghost output = { λ told. Some (clash_text told) };
+
+    fn fmt<W: fmt::Write>(&self, f: &mut fmt::Formatter<W>) -> fmt::Result {
+        let (file, key) = (self.file.as_str(), self.key.as_str());
+        let earlier = self.earlier.as_str();
+        write!(f, "{file}: {key}: said otherwise in {earlier}")
+    }
+}
 
 impl fmt::Display for Message {
     ghost use Rattle.std.specs.Prelude.{Some};
@@ -66,6 +79,7 @@ impl fmt::Display for Message {
                 let (file, refusal) = (unread.file.as_str(), &unread.refusal);
                 write!(f, "unreadable deck sheet\n{file}: {refusal}")
             }
+            Message::ClashingSheets(clashing) => write!(f, "unreadable deck sheet\n{clashing}"),
             Message::CannotOpenSheet(unopened) => {
                 let (file, reason) = (file_name_of(&unopened.file), reason_of(unopened.why));
                 write!(f, "cannot open\n{file}: {reason}")

@@ -1,6 +1,6 @@
 //! From the words of the command line to how the program ends.
 ghost use Rattle.std.specs.Prelude.{◌≡◌, IfErr, IfOk};
-ghost use Rattle.std.specs.Fn.{FnOnceReturnsAt};
+ghost use Rattle.std.specs.Fn.{FnOnceReturnsAt, FnReturnsAt};
 ghost use Rattle.program9.specs.Opening.{outcome_unopened, why_of};
 ghost use Rattle.program9.specs.Outcome.{told_after, without_write_fault};
 ghost use Rattle.program9.specs.Output.{contents_behind};
@@ -32,29 +32,30 @@ struct Begun<R: Read + Drop, W: Write + Drop> {
     named: Named,
 }
 
-/// The program from its words, or from why there are none, to its end: reads the task, reads the deck's sheet that it names, opens
+/// The program from its words, or from why there are none, to its end: reads the task, reads the deck's sheets that it names, opens
 /// its capture, judges that and writes the report to `out`; or writes its version there. It answers how the program ends, and the
 /// writer as it left it.
 ///
-/// `sheet_opener` is asked once, for the task's sheet, or for the deck's file of an export, where it names one; and then `opener` once,
-/// for the task's file, where there is a task and its sheet is none that was refused. `maker` makes what the words ask for beside the
-/// reports of a judging, and promises what it says. The end is
+/// `sheet_opener` is asked for each of the task's sheets that the program does not have in itself, in their order, and for the deck's
+/// file of an export, where it names one; and then `opener` once, for the task's file, where there is a task and none of its sheets
+/// was refused. `maker` makes what the words ask for beside the reports of a judging, and promises what it says. The end is
 ///
 /// * `Usage` only where the words are no command, or could not be fetched as text: nothing is written;
 /// * `NoValue` only where the words are one, but for the value of `--from` or `--to`, which is no time: nothing is written;
 /// * the `Outcome` of the judging that the words ask for, without the message of a write fault where `out` is a pipe whose reader is
-///   gone: with their verb, at their rate, with hands where they say so, for a deck that does what the sheet says, from the first
+///   gone: with their verb, at their rate, with hands where they say so, for a deck that does what the sheets say, from the first
 ///   record that may begin a command where they say `--sync`, with `explain` each exchange with its bytes where they say `--bytes`,
 ///   and with `check`, `explain` and `why` part by part where they say `--all`; its report went through a buffer, which hands on each
 ///   line at once exactly where they say `--line-buffered`; or, where they ask for something that is made, the `Outcome` of the maker;
-/// * status 3 with `UnreadableSheet`, the file and what is wrong, where the sheet is none; status 4 with `CannotOpenSheet`, the file
-///   and the reason, where `sheet_opener` or its reader failed: nothing is written;
+/// * status 3 with `UnreadableSheet`, the file and what is wrong, where a sheet is none, or with `ClashingSheets`, both files and the key,
+///   where two say different things of one; status 4 with `CannotOpenSheet`, the file and the reason, where `sheet_opener` or its reader
+///   failed: nothing is written;
 /// * status 4 with `CannotOpen`, the file and the reason where `opener` failed: nothing is written;
 /// * status 0 where the words ask for the version: its line is written; or status 4 with `WriteFault`, and a first part of
 ///   it;
 /// * status 5 with `NoMemory` where a growth of memory is refused.
 pub fn run_program<
-    G: FnOnce(&String) -> io::Result<S>,
+    G: Fn(&String) -> io::Result<S>,
     S: Read + Drop,
     F: FnOnce(&Option<String>) -> io::Result<R>,
     R: Read + Drop,
@@ -70,7 +71,7 @@ pub fn run_program<
 ) -> (End, W)
     requires sheet { G.IsAlwaysCallable sheet_opener }
     requires capture { F.IsAlwaysCallable opener }
-    ensures { EndsProgram M.makes (record { opens = FnOnceReturnsAt F.FnOnce opener; coming = R.remaining; opens_sheet = FnOnceReturnsAt G.FnOnce sheet_opener; coming_sheet = S.remaining; contents = W.contents })
+    ensures { EndsProgram M.makes (record { opens = FnOnceReturnsAt F.FnOnce opener; coming = R.remaining; opens_sheet = FnReturnsAt G.Fn sheet_opener; coming_sheet = S.remaining; contents = W.contents })
         words out result.0 (W.contents result.1) }
 {
     let words = match words {
@@ -101,9 +102,9 @@ fn end_without<W: Write + Drop>(fault: WordsFault, out: W) -> (End, W)
     }
 }
 
-/// Reads the task's sheet, opens its capture, judges that and hands the report on.
+/// Reads the task's sheets, opens its capture, judges that and hands the report on.
 fn carry_out<
-    G: FnOnce(&String) -> io::Result<S>,
+    G: Fn(&String) -> io::Result<S>,
     S: Read + Drop,
     F: FnOnce(&Option<String>) -> io::Result<R>,
     R: Read + Drop,
@@ -112,7 +113,7 @@ fn carry_out<
 >(alloc: Global, task: Task, sheet_opener: G, opener: F, maker: &M, out: W) -> (Outcome, W)
     requires sheet { G.IsAlwaysCallable sheet_opener }
     requires capture { F.IsAlwaysCallable opener }
-    ensures { EndsTask M.makes (record { opens = FnOnceReturnsAt F.FnOnce opener; coming = R.remaining; opens_sheet = FnOnceReturnsAt G.FnOnce sheet_opener; coming_sheet = S.remaining; contents = W.contents })
+    ensures { EndsTask M.makes (record { opens = FnOnceReturnsAt F.FnOnce opener; coming = R.remaining; opens_sheet = FnReturnsAt G.Fn sheet_opener; coming_sheet = S.remaining; contents = W.contents })
         task out result.0 (W.contents result.1) }
 {
     match begin(alloc, task, sheet_opener, opener, out) {
@@ -132,10 +133,10 @@ fn carry_out<
     }
 }
 
-/// Reads the task's sheet, and then opens its capture and makes the buffer: what the judging needs; or the end, and the writer as it
+/// Reads the task's sheets, and then opens its capture and makes the buffer: what the judging needs; or the end, and the writer as it
 /// was.
 fn begin<
-    G: FnOnce(&String) -> io::Result<S>,
+    G: Fn(&String) -> io::Result<S>,
     S: Read + Drop,
     F: FnOnce(&Option<String>) -> io::Result<R>,
     R: Read + Drop,
@@ -149,9 +150,9 @@ fn begin<
 ) -> Result<Begun<R, W>, (Outcome, W)>
     requires sheet { G.IsAlwaysCallable sheet_opener }
     requires capture { F.IsAlwaysCallable opener }
-    ensures begins { IfOk result (λ b. Begins (record { opens = FnOnceReturnsAt F.FnOnce opener; coming = R.remaining; opens_sheet = FnOnceReturnsAt G.FnOnce sheet_opener; coming_sheet = S.remaining; contents = W.contents }) task out b.reader b.out b.job) }
+    ensures begins { IfOk result (λ b. Begins (record { opens = FnOnceReturnsAt F.FnOnce opener; coming = R.remaining; opens_sheet = FnReturnsAt G.Fn sheet_opener; coming_sheet = S.remaining; contents = W.contents }) task out b.reader b.out b.job) }
     ensures file { IfOk result (λ b. b.named.file ≡ task.file) }
-    ensures ends { IfErr result (λ e. EndsBefore (record { opens = FnOnceReturnsAt F.FnOnce opener; coming = R.remaining; opens_sheet = FnOnceReturnsAt G.FnOnce sheet_opener; coming_sheet = S.remaining; contents = W.contents }) task e.0) }
+    ensures ends { IfErr result (λ e. EndsBefore (record { opens = FnOnceReturnsAt F.FnOnce opener; coming = R.remaining; opens_sheet = FnReturnsAt G.Fn sheet_opener; coming_sheet = S.remaining; contents = W.contents }) task e.0) }
     ensures untouched { IfErr result (λ e. e.1 ≡ out) }
 {
     let Task {
@@ -159,19 +160,15 @@ fn begin<
         file,
         rate,
         hands,
-        deck,
+        sheets,
         mut export,
     } = task;
     let deck_file = export.deck_file.take();
-    let other = match read_other(alloc, deck, deck_file, sheet_opener) {
+    let other = match read_other(alloc, sheets.as_slice(), deck_file, &sheet_opener) {
         Ok(other) => other,
         Err(end) => return Err((end, out)),
     };
-    let Other {
-        deck,
-        sheet,
-        deck_text,
-    } = other;
+    let Other { deck, deck_text } = other;
     let reader = match opener(&file) {
         Ok(reader) => reader,
         Err(e) => return Err((not_opened(file, &e), out)),
@@ -186,7 +183,7 @@ fn begin<
                 job,
                 named: Named {
                     file,
-                    sheet,
+                    sheets,
                     export,
                     deck_text,
                 },

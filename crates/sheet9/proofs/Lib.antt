@@ -1,7 +1,9 @@
+pub mod ClashLemmas
 pub mod EmptyLemmas
 pub mod JoinLemmas
 pub mod PartLemmas
 pub mod PrintLemmas
 pub mod ReplyLemmas
+pub mod SheetsLemmas
 pub mod TableLemmas
 pub mod Words

@@ -11,5 +11,6 @@ pub mod Refusal
 pub mod Replies
 pub mod Runs
 pub mod Sheet
+pub mod Sheets
 pub mod Text
 pub mod Working

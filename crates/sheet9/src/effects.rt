@@ -15,14 +15,21 @@ use std::alloc::{AllocError, Global};
 use std::collections::BTreeMap;
 use toml::Value;
 
-/// What commands do, each by its head.
+/// What is said that commands do, each by its head.
 #[derive(Drop)]
 pub(crate) struct Effects {
-    /// What is forgotten at those that have no other effect.
-    pub(crate) alone: BTreeMap<u32, Forgotten>,
-    /// To which modes those may lead for which some are named.
+    /// What is forgotten at them.
+    pub(crate) forgets: BTreeMap<u32, Forgotten>,
+    /// To which modes they may lead.
     pub(crate) goals: BTreeMap<u32, ModeSet>,
-    /// What is forgotten beside an effect.
+}
+
+/// What is forgotten at commands, each by its head.
+#[derive(Drop)]
+pub(crate) struct Parted {
+    /// At those that have no other effect.
+    pub(crate) alone: BTreeMap<u32, Forgotten>,
+    /// Beside an effect.
     pub(crate) beside: BTreeMap<u32, Forgotten>,
 }
 
@@ -35,37 +42,32 @@ pub(crate) fn read_effects(
     ensures ok { IfOk result (λ e. IsOkAnd (effects_of (option_map (λ v. view v.now) forgets.entry) (option_map (λ v. view v.now) goals.entry)) (λ said. AreEffectsOf said e)) }
     ensures err { IfErr result (ReportsWithoutLine (effects_of (option_map (λ v. view v.now) forgets.entry) (option_map (λ v. view v.now) goals.entry))) }
 {
-    let said = read_table(alloc, forgets)?;
-    match read_goals(alloc, goals, &said) {
-        Ok(goals) => Ok(part(alloc, said, goals)?),
+    let forgets = read_table(alloc, forgets)?;
+    match read_goals(alloc, goals, &forgets) {
+        Ok(goals) => Ok(Effects { forgets, goals }),
         Err(error) => Err(error),
     }
 }
 
 /// Parts what is said to be forgotten at commands by whether that is beside an effect.
-fn part(
+pub(crate) fn part(
     alloc: Global,
     said: BTreeMap<u32, Forgotten>,
-    goals: BTreeMap<u32, ModeSet>,
-) -> Result<Effects, AllocError>
-    ensures goals { IfOk result (λ e. e.goals ≡ goals) }
-    ensures alone { IfOk result (λ e. (head : ℕ) → get nat_cmp e.alone head ≡ (if is_beside (get nat_cmp goals) head then None else get nat_cmp said head)) }
-    ensures beside { IfOk result (λ e. (head : ℕ) → get nat_cmp e.beside head ≡ (if is_beside (get nat_cmp goals) head then get nat_cmp said head else None)) }
+    goals: &BTreeMap<u32, ModeSet>,
+) -> Result<Parted, AllocError>
+    ensures alone { IfOk result (λ e. (head : ℕ) → get nat_cmp e.alone head ≡ (if is_beside (get nat_cmp goals.now) head then None else get nat_cmp said head)) }
+    ensures beside { IfOk result (λ e. (head : ℕ) → get nat_cmp e.beside head ≡ (if is_beside (get nat_cmp goals.now) head then get nat_cmp said head else None)) }
 {
     let mut rest = said;
     let (mut alone, mut beside) = (BTreeMap::new(alloc), BTreeMap::new(alloc));
     'rest: while let Some((head, forgotten)) = rest.pop_last() {
-        if is_beside(&goals, head) {
+        if is_beside(goals, head) {
             beside.insert(head, forgotten)?;
         } else {
             alone.insert(head, forgotten)?;
         }
     }
-    Ok(Effects {
-        alone,
-        goals,
-        beside,
-    })
+    Ok(Parted { alone, beside })
 }
 
 /// Whether a command has an effect beside which it forgets: a listed one by the rules, another where some goals are named for it.

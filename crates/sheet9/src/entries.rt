@@ -1,5 +1,5 @@
 //! A table whose keys name commands, as `[forgets]`.
-ghost use Rattle.std.specs.Prelude.{◌≡◌, IfOk, IfErr, Ok, [], option_map};
+ghost use Rattle.std.specs.Prelude.{◌≡◌, ◌↔◌, IfOk, IfErr, Ok, [], option_map, true};
 ghost use Rattle.toml.specs.View.{table_view, view};
 ghost use Rattle.sheet9.specs.Entries.{CommandTable, command_in, entries_of, named_by, table_of};
 ghost use Rattle.sheet9.specs.Working.{HasSaid, ReportsWithoutLine};
@@ -30,6 +30,10 @@ pub(crate) trait EntryValue: Drop + Sized {
     fn read(alloc: Global, key: &str, value: &Value) -> Result<Self, SheetError>
         ensures ok { IfOk result (λ v. table.value_of key.now (view value.now) ≡ Ok (said v)) }
         ensures err { IfErr result (ReportsWithoutLine (table.value_of key.now (view value.now))) };
+
+    /// Whether another value says the same.
+    fn is_same(&self, other: &Self) -> bool
+        ensures { (result ≡ true) ↔ (said self.now ≡ said other.now) };
 }
 
 /// What the table says, by its value, where that is there.

@@ -38,6 +38,10 @@ impl EntryValue for Forgotten {
             }
         }
     }
+
+    fn is_same(&self, other: &Forgotten) -> bool {
+        *self == *other
+    }
 }
 
 /// What a value says is forgotten.

@@ -43,6 +43,10 @@ impl EntryValue for ModeSet {
     fn read(alloc: Global, key: &str, value: &Value) -> Result<ModeSet, SheetError> {
         modes_in(alloc, TableName::Goals, key, value)
     }
+
+    fn is_same(&self, other: &ModeSet) -> bool {
+        *self == *other
+    }
 }
 
 /// What the value of the key `goals` says, where the key is there, beside what is said to be forgotten at commands.
@@ -96,7 +100,7 @@ fn read_entries(
 }
 
 /// Whether what is said to be forgotten at a command goes with modes to which it may lead.
-fn goes_with(forgotten: Option<&Forgotten>) -> bool
+pub(crate) fn goes_with(forgotten: Option<&Forgotten>) -> bool
     ensures { result ≡ goes_with (option_map (λ f. f.now) forgotten.entry) }
 {
     match forgotten {

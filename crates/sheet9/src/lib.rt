@@ -26,6 +26,7 @@
 #![tactic(auto)]
 
 mod acts;
+mod clash;
 mod effects;
 mod entries;
 mod forgets;
@@ -40,8 +41,12 @@ mod quoted;
 mod refusal;
 mod replies;
 mod runs;
+mod said;
 mod sheet;
+mod sheets;
 mod text;
+mod union;
 
+pub use clash::Clash;
 pub use refusal::{EntryFault, ItemFault, Refusal, SheetError, TableName};
-pub use sheet::read_sheet;
+pub use sheets::{SheetsError, read_sheets};

@@ -34,6 +34,10 @@ impl EntryValue for Lost {
             None => Err(SheetError::of_entry(alloc, TableName::Loses, key, EntryFault::NotLost)),
         }
     }
+
+    fn is_same(&self, other: &Lost) -> bool {
+        *self == *other
+    }
 }
 
 /// What a value says is lost.

@@ -40,6 +40,10 @@ impl EntryValue for ArrayVec<u8, 24> {
             Err(fault) => Err(SheetError::of_entry(alloc, TableName::Names, key, fault)),
         }
     }
+
+    fn is_same(&self, other: &Name) -> bool {
+        self.as_slice() == other.as_slice()
+    }
 }
 
 /// The name that a text is, or what is wrong with it.

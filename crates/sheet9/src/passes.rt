@@ -3,6 +3,7 @@ ghost use Rattle.std.specs.Prelude.{◌≡◌, IfOk, IfErr, Ok, option_map};
 ghost use Rattle.toml.specs.Data.{as_array};
 ghost use Rattle.toml.specs.View.{table_view, view};
 ghost use Rattle.sheet9.specs.Passes.{own_ways, passes_in, passes_of, way_with};
+ghost use Rattle.sheet9.specs.Sheets.{both_ways};
 ghost use Rattle.sheet9.specs.Working.{ReportsWithoutLine};
 
 use crate::modes::{mode_named, with_names};
@@ -26,6 +27,17 @@ pub(crate) fn read_passes(alloc: Global, value: Option<&Value>) -> Result<[ModeS
             Err(SheetError::Refused(Refusal::NoTable { table }))
         }
     }
+}
+
+/// The ways with those of another sheet: the modes that are on the way to each goal by either.
+pub(crate) fn with_ways(one: &[ModeSet; 10], other: &[ModeSet; 10]) -> [ModeSet; 10]
+    ensures { result ≡ both_ways one.now other.now }
+{
+    let mut both = *one;
+    for place in 0..10 {
+        both[place] = one[place].or(other[place]);
+    }
+    both
 }
 
 /// The ways of the profile.

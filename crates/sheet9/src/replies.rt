@@ -46,6 +46,10 @@ impl EntryValue for SmallVec<ReplyForm, 4> {
             items => forms_in(alloc, key, items),
         }
     }
+
+    fn is_same(&self, other: &Forms) -> bool {
+        self.as_slice() == other.as_slice()
+    }
 }
 
 /// The forms of reply that the items of a list are, under a command's key.

@@ -36,4 +36,8 @@ impl EntryValue for RunModes {
             Err(error) => Err(error),
         }
     }
+
+    fn is_same(&self, other: &RunModes) -> bool {
+        self.0 == other.0
+    }
 }

@@ -1,62 +1,35 @@
-//! From a text to a deck.
+//! From a text to what it says.
 ghost use Rattle.std.specs.Prelude.{◌≡◌, ◌+◌, ◌≤◌, ◌<◌, ◌^◌, IfOk, IfErr, OnOk, IsOkAnd, Some, None, length, option_map};
 ghost use Rattle.toml.specs.Data.{get_member};
 ghost use Rattle.toml.specs.View.{table_view, view};
 ghost use Rattle.sheet9.specs.Refusal.{NamesFaultLine, Reports, line_after};
-ghost use Rattle.sheet9.specs.Sheet.{IsDeckOf, document_of, meaning_of, sheet_of, unknown_key};
-ghost use Rattle.sheet9.specs.Working.{ReportsWithoutLine};
+ghost use Rattle.sheet9.specs.Sheet.{document_of, meaning_of, sheet_of, unknown_key};
+ghost use Rattle.sheet9.specs.Working.{ReportsWithoutLine, IsSaid};
 
-use crate::acts::joined;
-use crate::effects::read_effects;
-use crate::entries::read_table;
-use crate::passes::read_passes;
 use crate::refusal::{Refusal, SheetError};
-use deck9::Deck;
+use crate::said::Said;
 use std::alloc::Global;
 use std::str;
 use toml::{Table, Value};
 
-/// Reads the text of a sheet: the deck that does what it says.
+/// Reads the text of a sheet: what it says.
 ///
 /// An error is `Refused` where the text is not a sheet, and says what is wrong first: that it is not TOML (or not UTF-8), then
 /// an unknown key at the top, then what is wrong with `[forgets]`, then with `[goals]`, `[loses]`, `[names]`, `[passes]`, `[replies]`
 /// and `[runs]`. The line of `NotToml` is that of the first byte that is not UTF-8, where there is one. Else it is the line that the
 /// toml library names: that the text has such a line is proved, and that it is the line of the fault is only tested. The error is
 /// `OutOfMemory` where a growth of memory was refused, which says nothing of the text.
-pub fn read_sheet(alloc: Global, text: &[u8]) -> Result<Deck, SheetError>
-    ensures deck { IfOk result (λ deck. IsOkAnd (sheet_of text.now) (λ sheet. IsDeckOf sheet deck)) }
+pub(crate) fn read_sheet(alloc: Global, text: &[u8]) -> Result<Said, SheetError>
+    ensures said { IfOk result (λ said. IsOkAnd (sheet_of text.now) (λ sheet. IsSaid sheet said)) }
     ensures refused { IfErr result (Reports (sheet_of text.now)) }
     ensures line { IfErr result (NamesFaultLine text.now) }
 {
     let top = read_document(alloc, text)?;
-    read_tables(alloc, &top)
-}
-
-/// Reads the tables of a document.
-fn read_tables(alloc: Global, top: &Table) -> Result<Deck, SheetError>
-    ensures ok { IfOk result (λ deck. IsOkAnd (meaning_of (table_view top.now)) (λ sheet. IsDeckOf sheet deck)) }
-    ensures err { IfErr result (ReportsWithoutLine (meaning_of (table_view top.now))) }
-{
-    check_keys(alloc, top)?;
-    let effects = read_effects(alloc, value_at(top, "forgets"), value_at(top, "goals"))?;
-    let losses = read_table(alloc, value_at(top, "loses"))?;
-    let names = read_table(alloc, value_at(top, "names"))?;
-    let ways = read_passes(alloc, value_at(top, "passes"))?;
-    let replies = read_table(alloc, value_at(top, "replies"))?;
-    let runs = read_table(alloc, value_at(top, "runs"))?;
-    Ok(Deck {
-        forgets: effects.alone,
-        goals: effects.goals,
-        also_forgets: effects.beside,
-        acts: joined(alloc, runs, losses)?,
-        ways,
-        names,
-        replies,
-    })
+    Said::read(alloc, &top)
 }
 
 /// The value of a key.
-fn value_at<'a>(table: &'a Table, key: &str) -> Option<&'a Value>
+pub(crate) fn value_at<'a>(table: &'a Table, key: &str) -> Option<&'a Value>
     ensures { option_map (λ v. view v.now) result ≡ get_member key.now (table_view table.now) }
 {
     table.get(key)
@@ -109,7 +82,7 @@ fn line_after(bytes: &[u8]) -> usize
 }
 
 /// Refuses the first key at the top that no sheet has.
-fn check_keys(alloc: Global, top: &Table) -> Result<(), SheetError>
+pub(crate) fn check_keys(alloc: Global, top: &Table) -> Result<(), SheetError>
     ensures ok { OnOk result (unknown_key (table_view top.now) ≡ None) }
     ensures err { IfErr result (ReportsWithoutLine (meaning_of (table_view top.now))) }
 {

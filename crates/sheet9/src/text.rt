@@ -62,7 +62,7 @@ impl fmt::Display for Refusal {
 }
 
 /// The name of a table.
-fn name_of<'a>(table: TableName) -> &'a str
+pub(crate) fn name_of<'a>(table: TableName) -> &'a str
     ensures { result.now ≡ name_of table }
 {
     match table {

@@ -3,5 +3,7 @@ mod accepted_sheets;
 mod acting_sheets;
 mod convert;
 mod info;
+mod one_sheet;
 mod refused_replies;
 mod refused_sheets;
+mod several_sheets;

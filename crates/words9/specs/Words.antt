@@ -5,8 +5,8 @@ use Rattle.std.specs.Borrow.{Bor}
 use Rattle.std.specs.Option.{unwrap_or}
 use Rattle.std.specs.Str.{bytes_eq}
 use Rattle.std.specs.String.{string_bytes}
-use Rattle.clap.specs.Words.{App, IsAmong, Row, Rule, Text, fault_of, first_of, new_app, new_rule, subcommand_of, with_rule, with_subcommand}
-use Rattle.clap.specs.declared.builder.action.ArgAction.TheVariants.{SetTrue}
+use Rattle.clap.specs.Words.{App, IsAmong, Row, Rule, Text, all_of, fault_of, first_of, new_app, new_rule, subcommand_of, with_rule, with_subcommand}
+use Rattle.clap.specs.declared.builder.action.ArgAction.TheVariants.{Append, SetTrue}
 use Rattle.clap.specs.declared.builder.value_parser.ValueParser.TheVariants as parser
 use Rattle.clap.specs.declared.error.kind.ErrorKind.TheVariants.{DisplayVersion}
 use Rattle.tc25.specs.declared.rate.Rate.{Rate}
@@ -66,6 +66,10 @@ switch_rule name = record (new_rule name) { long = Some name; action = Some SetT
 abbrev pub value_rule : Text → Text → Rule
 value_rule id name = record (new_rule id) { long = Some name; value_names = 1 }
 
+-- the same, and it may be given more than once
+abbrev pub values_rule : Text → Text → Rule
+values_rule id name = record (value_rule id name) { action = Some Append }
+
 -- an option with one of the names of the rates
 abbrev pub rate_rule : RateNames → Rule
 rate_rule names = record (value_rule (codes "rate") (codes "rate")) { parser = Some (parser.Names names) }
@@ -96,15 +100,15 @@ name_of verb.ConvertLog = codes "convert log"
 name_of verb.Split = codes "split"
 
 -- what a subcommand takes that judges, but `try` and `touches`: the file, and the options of the panel, of the capture's beginning, of
--- the rate and of the deck's sheet
+-- the rate and of the deck's sheets
 abbrev pub judged_rules : RateNames → List Rule
 judged_rules names =
-    file_rule (codes "FILE") ∷ switch_rule (codes "hands") ∷ switch_rule (codes "sync") ∷ rate_rule names ∷ value_rule (codes "deck") (codes "deck")
+    file_rule (codes "FILE") ∷ switch_rule (codes "hands") ∷ switch_rule (codes "sync") ∷ rate_rule names ∷ values_rule (codes "deck") (codes "deck")
     ∷ []
 
 -- what `try` and `touches` take, which are not told whether somebody may have touched the panel: the same without the option of it
 abbrev pub handless_rules : RateNames → List Rule
-handless_rules names = file_rule (codes "FILE") ∷ switch_rule (codes "sync") ∷ rate_rule names ∷ value_rule (codes "deck") (codes "deck") ∷ []
+handless_rules names = file_rule (codes "FILE") ∷ switch_rule (codes "sync") ∷ rate_rule names ∷ values_rule (codes "deck") (codes "deck") ∷ []
 
 -- the options that go on after a break, and that hand each line on at once
 abbrev pub all_rules : List Rule
@@ -263,6 +267,10 @@ hands_of verb.Touches given = hands.Allowed
 hands_of _ true = hands.Allowed
 hands_of _ false = hands.None
 
+-- all that was given for an argument, in the order of the words
+abbrev pub values_of : Text → List Row → List Text
+values_of argument rows = unwrap_or (all_of argument rows) []
+
 -- an option is among these rows
 abbrev pub has : Text → List Row → Bool
 has option rows = is_on (first_of option rows)
@@ -310,7 +318,7 @@ pub record GivesTask (names : RateNames) (words : List Text) (task : Task) : Typ
   pub file : option_map string_bytes task.file ≡ first_of (codes "FILE") rows
   pub rate : task.rate ≡ rate_of (first_of (codes "rate") rows)
   pub hands : task.hands ≡ hands_of verb (has (codes "hands") rows)
-  pub deck : option_map string_bytes task.deck ≡ first_of (codes "deck") rows
+  pub sheets : map (λ s. string_bytes s) task.sheets.items ≡ values_of (codes "deck") rows
   pub export : IsExportOf rows task.export
 
 -- it does not take them

@@ -26,6 +26,17 @@ pub(crate) enum Argument<'a> {
         /// Its line of help.
         help: &'a str,
     },
+    /// An option with a value that may be given more than once: the same.
+    Values {
+        /// By this its values are asked for.
+        id: &'a str,
+        /// It stands behind two hyphens among the words.
+        long: &'a str,
+        /// What help calls a value.
+        value: &'a str,
+        /// Its line of help.
+        help: &'a str,
+    },
     /// The option with the name of a rate: its line of help.
     Rate(&'a str),
 }
@@ -54,12 +65,12 @@ const RATE: Argument = Argument::Rate(
     "The frame rate of the time code: 24 (also 23.976), 25 (if left out), 30 (also 29.97 without drop frame), 29.97df",
 );
 
-/// The option of the deck's sheet.
-const DECK: Argument = Argument::Value {
+/// The option of the deck's sheets.
+const DECK: Argument = Argument::Values {
     id: "deck",
     long: "deck",
     value: "FILE",
-    help: "A sheet of what this deck does of its own, as TOML: what commands are called, which replies they take, what they make it forget, through which modes it passes, and what it does by itself",
+    help: "A sheet of what this deck does of its own, as TOML: what commands are called, which replies they take, what they make it forget, through which modes it passes, and what it does by itself. Several, each with an option of its own, are taken together. Inside the program: 9pin, edit, eject, jog, no-bit, rewind, standby, user-bits and var-play",
 };
 
 /// The option that goes on after a break.

@@ -176,8 +176,9 @@ pub struct Task {
     pub rate: Rate,
     /// Whether somebody may have touched the deck's panel during the capture.
     pub hands: Hands,
-    /// The file that holds the deck's sheet, which says what this deck does of its own; the profile alone where there is none.
-    pub deck: Option<String>,
+    /// The deck's sheets, in the order of the words, which say what this deck does of its own: each is a file. The profile alone where there
+    /// are none.
+    pub sheets: Vec<String>,
     /// What the words of an export or of a split say.
     pub export: ExportWords,
 }

@@ -163,6 +163,16 @@ fn arg_of<'a>(alloc: Global, argument: Argument<'a>, rates: &'a [&'a str]) -> Ar
             value,
             help,
         } => Arg::new(alloc, id).long(long).value_name(value).help(help),
+        Argument::Values {
+            id,
+            long,
+            value,
+            help,
+        } => Arg::new(alloc, id)
+            .long(long)
+            .value_name(value)
+            .action(ArgAction::Append)
+            .help(help),
         Argument::Rate(help) => Arg::new(alloc, "rate")
             .long("rate")
             .value_name("RATE")

@@ -3,7 +3,7 @@ ghost use Rattle.std.specs.Prelude.{◌≡◌, ◌≢◌, IfOk, MatchOption, Opt
 ghost use Rattle.std.specs.String.{string_bytes};
 ghost use Rattle.clap.specs.Words.{first_of, found_of, kind_of, rows_of};
 ghost use Rattle.clap.specs.declared.error.Error.{Error as ClapError};
-ghost use Rattle.words9.specs.Words.{AsksVersion, IsNoTask, IsDrawingOf, IsExportOf, IsStretchOf, IsTaskOf, MayAskVersion, asked_of, beginning_of, extent_of, hands_of, is_asked, is_export, is_on, is_pair, joined, name_of, rate_named, rate_of, report_of, shown};
+ghost use Rattle.words9.specs.Words.{AsksVersion, IsNoTask, IsDrawingOf, IsExportOf, IsStretchOf, IsTaskOf, MayAskVersion, asked_of, beginning_of, extent_of, hands_of, is_asked, is_export, is_on, is_pair, joined, name_of, rate_named, rate_of, report_of, shown, values_of};
 
 use crate::task::{
     Asked, Drawing, Export, ExportWords, Made, NoValue, Report, Task, Verb, WordsFault,
@@ -20,7 +20,7 @@ use tc25::Rate;
 /// The task that these words give: those of the command line after the program's own name.
 ///
 /// The words are a subcommand, with it at most one file (two with `convert saleae`) and, before or after it, each at most once the
-/// options that the subcommand has (`rules_of` of the definitions); or they are `--version` or `-V`. `json` may have the word `check`,
+/// options that the subcommand has (`rules_of` of the definitions), `--deck` of a judging as often as there are sheets; or they are `--version` or `-V`. `json` may have the word `check`,
 /// `explain`, `run` or `why` right behind it, and `convert` has `sigrok`, `saleae` or `log` there; the two are one subcommand. What
 /// else the words may look like is `clap`'s own definition: so a value that begins with a minus sign needs the equals sign before it,
 /// as in `--from=-1.5`.
@@ -72,7 +72,7 @@ fn read_joined(alloc: Global, words: &[String]) -> Result<Task, WordsFault>
     let Ok(file) = value_of(alloc, found, "FILE") else {
         return Err(WordsFault::NoMemory);
     };
-    let Ok(deck) = value_of(alloc, found, "deck") else {
+    let Ok(sheets) = values_of(alloc, found, "deck") else {
         return Err(WordsFault::NoMemory);
     };
     let Ok(export) = export_of(alloc, found) else {
@@ -86,7 +86,7 @@ fn read_joined(alloc: Global, words: &[String]) -> Result<Task, WordsFault>
         file,
         rate,
         hands,
-        deck,
+        sheets,
         export,
     })
 }
@@ -368,6 +368,24 @@ fn value_of(
         Some(value) => Ok(Some(String::from_str(alloc, value)?)),
         None => Ok(None),
     }
+}
+
+/// All that the subcommand was given for this argument, in the order of the words.
+fn values_of(
+    alloc: Global,
+    found: &ArgMatches<'_>,
+    argument: &str,
+) -> Result<Vec<String>, AllocError>
+    ensures { IfOk result (λ values. map (λ s. string_bytes s) values.items ≡ values_of argument.now (rows_of (found_of found.now))) }
+{
+    let mut values = Vec::new(alloc);
+    let Some(given) = found.get_raw(argument) else {
+        return Ok(values);
+    };
+    for value in given {
+        values.push(String::from_str(alloc, value)?)?;
+    }
+    Ok(values)
 }
 
 /// The rate that the subcommand was given: 25 where it was given none.

@@ -5,7 +5,7 @@ use page9::{Page, PageOf};
 use report9::{Beginning, Extent, JudgeError, Scope, Stretch};
 use seen9::ViewOf;
 use show9::{FewestMoves, show_explained};
-use std::alloc::Global;
+use std::alloc::{AllocError, Global};
 use std::process::Abort;
 use std::test::Fail;
 use tc25::Rate;
@@ -22,10 +22,14 @@ const SILENT: &str = "time_us,wire,byte\n\
 /// The page of a capture, of which this stretch is shown.
 fn page_of(alloc: Global, text: &str, stretch: Stretch) -> Result<Vec<u8>, JudgeError> {
     let text = text.as_bytes();
+    let mut sheets = Vec::new(alloc);
+    sheets
+        .push(String::from_str(alloc, "\"deck\" & co")?)
+        .map_err(|_| AllocError)?;
     let page = PageOf {
         text,
         file: Some(b"a <b>.csv"),
-        sheet: Some(b"\"deck\" & co"),
+        sheets: sheets.as_slice(),
         version: b"ninecheck 1.1.0\n",
         beginning: Beginning::FirstRecord,
         stretch,

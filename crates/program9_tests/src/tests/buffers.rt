@@ -41,7 +41,7 @@ fn judged(alloc: Global, text: &str, report: Report, writer: Narrow) -> Option<(
     let profile = Profile::of(Hands::None);
     let named = Named {
         file: None,
-        sheet: None,
+        sheets: Vec::new(alloc),
         export: no_words(),
         deck_text: None,
     };

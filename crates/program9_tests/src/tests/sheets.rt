@@ -56,7 +56,7 @@ const NO: &str = "no at record 34: M1 no run remains\n";
 fn sheet<'a>(file: &String) -> io::Result<&'a [u8]> {
     match file.as_str() {
         "empty" => Ok(b""),
-        "edit" => Ok(b"[forgets]\n\"20 61\" = \"nothing\"\n"),
+        "edit.toml" => Ok(b"[forgets]\n\"20 61\" = \"nothing\"\n"),
         "next" => Ok(b"[forgets]\n\"20 62\" = \"nothing\"\n"),
         "sense" => Ok(b"[forgets]\n\"61 20\" = \"nothing\"\n"),
         "torn" => Ok(b"[forgets\n"),
@@ -94,8 +94,8 @@ fn a_sheet_holds_the_deck_to_more(rt: HostRuntime) {
         (&["check"], 0, YES),
         (&["check", "--deck", "empty"], 0, YES),
         (&["check", "--deck", "next"], 0, YES),
-        (&["check", "--deck", "edit"], 1, NO),
-        (&["explain", "--hands", "--deck", "edit"], 0, YES),
+        (&["check", "--deck", "edit.toml"], 1, NO),
+        (&["explain", "--hands", "--deck", "edit.toml"], 0, YES),
     ];
     for (words, status, line) in &table {
         let (end, writer) = end_on(&rt, *words);

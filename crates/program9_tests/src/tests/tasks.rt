@@ -36,7 +36,7 @@ fn asks(alloc: Global, words: &[&str], wanted: &Wanted) -> bool {
         return false;
     };
     is_named(&task.file, wanted.file)
-        && is_named(&task.deck, wanted.deck)
+        && are_named(task.sheets.as_slice(), wanted.sheets)
         && task.asked.report == wanted.report
         && task.rate == Rate::Fps25
         && task.hands == wanted.hands
@@ -49,6 +49,16 @@ fn is_named(name: &Option<String>, wanted: Option<&str>) -> bool {
         (None, None) => true,
         _ => false,
     }
+}
+
+/// Whether these are the names that are wanted, in their order.
+fn are_named(names: &[String], wanted: &[&str]) -> bool {
+    for (place, name) in names.iter().enumerate() {
+        if wanted.get(place) != Some(&name.as_str()) {
+            return false;
+        }
+    }
+    names.len() == wanted.len()
 }
 
 /// Whether these words are no command.
@@ -64,18 +74,18 @@ struct Wanted {
     report: Report,
     file: Option<&'static str>,
     hands: Hands,
-    deck: Option<&'static str>,
+    sheets: &'static [&'static str],
 }
 
 /// tests/cases/words.txt has others. Here a file has a blank in its name, has an option's name beside the option, or has none.
 const COMMANDS: &[(&'static [&'static str], Wanted)] = &[
     (
-        &["check", "--deck", "edit.toml", "a.csv"],
+        &["check", "--deck", "edit.toml", "--deck=9pin", "a.csv"],
         Wanted {
             report: Report::ToBreak(VERDICT),
             file: Some("a.csv"),
             hands: Hands::None,
-            deck: Some("edit.toml"),
+            sheets: &["edit.toml", "9pin"],
         },
     ),
     (
@@ -84,7 +94,7 @@ const COMMANDS: &[(&'static [&'static str], Wanted)] = &[
             report: Report::Run,
             file: Some("a.csv"),
             hands: Hands::Allowed,
-            deck: Some("--hands"),
+            sheets: &["--hands"],
         },
     ),
     (
@@ -93,7 +103,7 @@ const COMMANDS: &[(&'static [&'static str], Wanted)] = &[
             report: Report::ToBreak(View::Why),
             file: Some("--deck"),
             hands: Hands::None,
-            deck: None,
+            sheets: &[],
         },
     ),
     (
@@ -102,7 +112,7 @@ const COMMANDS: &[(&'static [&'static str], Wanted)] = &[
             report: Report::ToBreak(NAMES),
             file: Some("a b"),
             hands: Hands::Allowed,
-            deck: None,
+            sheets: &[],
         },
     ),
     (
@@ -111,7 +121,7 @@ const COMMANDS: &[(&'static [&'static str], Wanted)] = &[
             report: Report::ToBreak(VERDICT),
             file: Some("--hands"),
             hands: Hands::Allowed,
-            deck: None,
+            sheets: &[],
         },
     ),
     (
@@ -120,7 +130,7 @@ const COMMANDS: &[(&'static [&'static str], Wanted)] = &[
             report: Report::ToBreak(VERDICT),
             file: Some(""),
             hands: Hands::None,
-            deck: None,
+            sheets: &[],
         },
     ),
     (
@@ -129,7 +139,7 @@ const COMMANDS: &[(&'static [&'static str], Wanted)] = &[
             report: Report::Parts(View::Why),
             file: Some("--all"),
             hands: Hands::None,
-            deck: None,
+            sheets: &[],
         },
     ),
     (
@@ -138,7 +148,7 @@ const COMMANDS: &[(&'static [&'static str], Wanted)] = &[
             report: Report::Made(Made::Touches),
             file: Some("a.csv"),
             hands: Hands::Allowed,
-            deck: Some("edit.toml"),
+            sheets: &["edit.toml"],
         },
     ),
     (
@@ -147,7 +157,7 @@ const COMMANDS: &[(&'static [&'static str], Wanted)] = &[
             report: Report::Parts(NAMES),
             file: None,
             hands: Hands::Allowed,
-            deck: None,
+            sheets: &[],
         },
     ),
 ];

@@ -1,8 +1,8 @@
 //! Sheets that are taken.
 
+use crate::tests::one_sheet::taken;
 use block9::ReplyForm;
 use deck9::{Deck, Forgotten, Mode};
-use sheet9::read_sheet;
 use std::collections::BTreeMap;
 use std::test::Fail;
 
@@ -296,19 +296,19 @@ const TAKEN: &[Taken] = &[
 
 #[test]
 fn sheets_that_are_taken(rt: HostRuntime) -> Result<(), Fail> {
-    for taken in TAKEN {
-        let deck = read_sheet(rt.alloc(), taken.text.as_bytes())?;
-        assert!(rt; forgets(&deck.forgets, taken.forgets), "{:?}", taken.text);
+    for sheet in TAKEN {
+        let deck = taken(rt.alloc(), &[sheet.text])?;
+        assert!(rt; forgets(&deck.forgets, sheet.forgets), "{:?}", sheet.text);
         assert!(rt;
-            forgets(&deck.also_forgets, taken.also_forgets),
+            forgets(&deck.also_forgets, sheet.also_forgets),
             "{:?}",
-            taken.text
+            sheet.text
         );
-        assert!(rt; goals(&deck, taken.goals), "{:?}", taken.text);
-        assert!(rt; names(&deck, taken.names), "{:?}", taken.text);
-        assert!(rt; passes(&deck, taken.adds), "{:?}", taken.text);
-        assert!(rt; replies(&deck, taken.replies), "{:?}", taken.text);
-        assert!(rt; deck.acts.is_empty(), "{:?}", taken.text);
+        assert!(rt; goals(&deck, sheet.goals), "{:?}", sheet.text);
+        assert!(rt; names(&deck, sheet.names), "{:?}", sheet.text);
+        assert!(rt; passes(&deck, sheet.adds), "{:?}", sheet.text);
+        assert!(rt; replies(&deck, sheet.replies), "{:?}", sheet.text);
+        assert!(rt; deck.acts.is_empty(), "{:?}", sheet.text);
     }
     Ok(())
 }

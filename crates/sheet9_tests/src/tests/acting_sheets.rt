@@ -1,8 +1,8 @@
 //! Sheets that say what a deck does by itself: those that are taken, and those that are refused.
 
 use super::refused_sheets::are_refused;
+use crate::tests::one_sheet::taken;
 use deck9::{Deck, Lost, Mode};
-use sheet9::read_sheet;
 use std::test::Fail;
 
 /// What a deck may do by itself after the command with this head: modes that it may show, and registers that it may clear.
@@ -97,7 +97,7 @@ const TAKEN: &[(&'static str, &'static [Act])] = &[
 #[test]
 fn sheets_of_decks_that_act(rt: HostRuntime) -> Result<(), Fail> {
     for (text, wanted) in TAKEN {
-        let deck = read_sheet(rt.alloc(), text.as_bytes())?;
+        let deck = taken(rt.alloc(), &[*text])?;
         assert!(rt; acts(&deck, wanted), "{text:?}");
     }
     Ok(())

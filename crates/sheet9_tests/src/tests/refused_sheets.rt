@@ -1,6 +1,7 @@
 //! Texts that are refused, and what is said of them.
 
-use sheet9::{SheetError, read_sheet};
+use crate::tests::one_sheet::read_sheet;
+use sheet9::SheetsError;
 use std::alloc::Global;
 use std::process::Abort;
 use std::test::Fail;
@@ -296,8 +297,8 @@ pub(super) fn are_refused(
 ) -> Result<(), Fail> {
     for (text, wanted) in table {
         let told = match read_sheet(alloc, text) {
-            Err(SheetError::Refused(refusal)) => format!(in alloc; "{refusal}")?,
-            Err(SheetError::OutOfMemory) => return Err(Fail::from("memory")),
+            Err(SheetsError::Refused { at: 0, refusal }) => format!(in alloc; "{refusal}")?,
+            Err(_) => return Err(Fail::from("memory")),
             Ok(_) => return Err(Fail::from(*wanted)),
         };
         assert_eq!(rt; told.as_str(), *wanted);

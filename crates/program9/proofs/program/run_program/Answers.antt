@@ -1,5 +1,5 @@
 use Rattle.std.proofs.Common.{◌≡◌, ℕ, inl, inr, List, map, Option, refl}
-use Rattle.std.specs.Fn.{FnOnceReturnsAt}
+use Rattle.std.specs.Fn.{FnOnceReturnsAt, FnReturnsAt}
 use Rattle.std.specs.String.{string_bytes}
 use Rattle.clap.specs.declared.error.Error.{Error as ClapError}
 use Rattle.words9.specs.declared.task.WordsFault.{WordsFault}
@@ -27,7 +27,7 @@ returns-in-Err-read_words g c = rw c.in-Ok.is (ends_words {R = g.row.R.Denot} {S
     (record {
       opens = FnOnceReturnsAt g.F.FnOnce c.args.opener;
       coming = g.R.Read.remaining;
-      opens_sheet = FnOnceReturnsAt g.G.FnOnce c.args.sheet_opener;
+      opens_sheet = FnReturnsAt g.G.Fn c.args.sheet_opener;
       coming_sheet = g.S.Read.remaining;
       contents = g.W.Write.contents;
     })

@@ -16,7 +16,7 @@ returns-clause-task c = (
     file = search rules;
     rate = search rules;
     hands = search rules;
-    deck = search rules;
+    sheets = search rules;
     export = c.in-Ok-export_of.ensures;
   },
 )
