@@ -22,7 +22,7 @@ const MOST_DIGITS: usize = 15;
 
 /// Writes the text that the reader gives with its times in a form, each line as soon as it is read. What is rewritten is `at` with a
 /// whole number of microseconds after it, up to a colon and a blank, a comma or the end of the line; and as a clock also the seconds
-/// at the beginning of a line of a digest or a motion. All else passes unchanged. It keeps one line, and the writer is not flushed.
+/// at the beginning of a line of a digest or a motion, both of equal breaks in a row. All else passes unchanged. It keeps one line, and the writer is not flushed.
 pub fn write_clock<R: BufRead, W: Write>(
     alloc: Global,
     reader: &mut R,
@@ -47,31 +47,84 @@ pub fn write_clock<R: BufRead, W: Write>(
     Ok(())
 }
 
-/// Puts a line of a digest or a motion up to its time, and the time as a clock: what comes after it. Of another line that is all.
-fn put_head<'a>(text: &mut Text, line: &'a [u8]) -> &'a [u8] {
-    let Some((before, time_us, after)) = parts_of_head(line) else {
-        return line;
-    };
-    text.put_bytes(before);
-    put_time(text, time_us, TimeForm::Clock);
-    after
+/// The head of a line of a digest or a motion.
+#[derive(Clone, Copy)]
+struct Head<'a> {
+    /// What stands before its time.
+    before: &'a [u8],
+    /// The time in microseconds.
+    from_us: u64,
+    /// The time of the last of equal breaks in a row.
+    to_us: Option<u64>,
+    /// What stands after the unit.
+    after: &'a [u8],
 }
 
-/// What stands before the time of a line of a digest or a motion, the time in microseconds, and what stands after its unit.
-fn parts_of_head(line: &[u8]) -> Option<(&[u8], u64, &[u8])> {
+/// Puts a line of a digest or a motion up to its time, and the time as a clock: what comes after it. Of another line that is all.
+fn put_head<'a>(text: &mut Text, line: &'a [u8]) -> &'a [u8] {
+    let Some(head) = head_of_one(line).or(head_of_run(line)) else {
+        return line;
+    };
+    text.put_bytes(head.before);
+    put_time(text, head.from_us, TimeForm::Clock);
+    if let Some(to_us) = head.to_us {
+        text.put(" to ");
+        put_time(text, to_us, TimeForm::Clock);
+    }
+    head.after
+}
+
+/// The head of a line that names one record.
+fn head_of_one(line: &[u8]) -> Option<Head<'_>> {
     let blanks = line.iter().take_while(|byte| **byte == b' ').count();
-    let (number, rest) = split_digits(line.get(blanks..)?.strip_prefix(b"record ")?);
+    let rest = behind_number(line.get(blanks..)?.strip_prefix(b"record ")?)?;
     let seconds = rest.strip_prefix(b", ")?;
-    let (whole, rest) = split_digits(seconds);
-    let (decimals, rest) = split_digits(rest.strip_prefix(b".")?);
-    let after = rest.strip_prefix(b" s")?;
-    let is_time = decimals.len() == 6 && matches!(whole.len(), 1..=9) && after.starts_with(b": ");
-    if !is_time || !matches!(number, [b'1'..=b'9', ..]) {
+    let (from_us, after) = split_seconds(seconds)?;
+    if !after.starts_with(b": ") {
         return None;
     }
-    let before = line.get(..line.len().saturating_sub(seconds.len()))?;
+    Some(Head {
+        before: line.get(..line.len().saturating_sub(seconds.len()))?,
+        from_us,
+        to_us: None,
+        after,
+    })
+}
+
+/// The head of a line of equal breaks in a row.
+fn head_of_run(line: &[u8]) -> Option<Head<'_>> {
+    let rest = behind_number(line.strip_prefix(b"no at records ")?)?;
+    let rest = behind_number(rest.strip_prefix(b" to ")?)?;
+    let seconds = rest.strip_prefix(b", ")?;
+    let (from_us, rest) = split_seconds(seconds)?;
+    let (to_us, after) = split_seconds(rest.strip_prefix(b" to ")?)?;
+    if !after.starts_with(b": ") {
+        return None;
+    }
+    Some(Head {
+        before: line.get(..line.len().saturating_sub(seconds.len()))?,
+        from_us,
+        to_us: Some(to_us),
+        after,
+    })
+}
+
+/// What stands behind the number of a record, counted from 1.
+fn behind_number(text: &[u8]) -> Option<&[u8]> {
+    let (number, rest) = split_digits(text);
+    matches!(number, [b'1'..=b'9', ..]).then_some(rest)
+}
+
+/// The microseconds that seconds with six decimals and their unit are, and what stands behind these.
+fn split_seconds(text: &[u8]) -> Option<(u64, &[u8])> {
+    let (whole, rest) = split_digits(text);
+    let (decimals, rest) = split_digits(rest.strip_prefix(b".")?);
+    let after = rest.strip_prefix(b" s")?;
+    if decimals.len() != 6 || !matches!(whole.len(), 1..=9) {
+        return None;
+    }
     let whole_us = number_of(whole).saturating_mul(1_000_000);
-    Some((before, whole_us.saturating_add(number_of(decimals)), after))
+    Some((whole_us.saturating_add(number_of(decimals)), after))
 }
 
 /// Puts a text with each time that stands after `at` in a form.
