@@ -38,9 +38,11 @@ impl<W: Write> Json<'_, W> {
         let (alloc, profile) = (self.alloc, self.profile);
         let records = u64::try_from(records_in(exchanges.as_slice())).unwrap_or(0);
         let mut last = u64::from(*at).saturating_sub(records);
+        let mut told = 0usize;
         for (place, exchange) in exchanges.iter().enumerate() {
             last = last.saturating_add(exchange.records() as u64);
-            if places.contains(&place) {
+            if places.get(told).copied() == Some(place) {
+                told = told.saturating_add(1);
                 let mut line = Line::new(alloc, "contradicting_exchange");
                 put_exchange(&mut line, profile, last, exchange);
                 line.put_says(exchange);
