@@ -40,8 +40,15 @@ def wrong(text, line):
         if name in found and found[name] not in told:
             return f'{name} is not that of the line: {line}'
 
+# A command that was not obeyed has an object, and no line.
+NOT_OBEYED = '{"line":"not_obeyed",'
+
 def faults(report, objects):
     report, objects = (lines.split('\n') for lines in (report, objects))
+    for text in objects:
+        if text.startswith(NOT_OBEYED) and set(json.loads(text)) != set(keys_of['not_obeyed']):
+            yield f'not the keys of the page: {text}'
+    objects = [text for text in objects if not text.startswith(NOT_OBEYED)]
     if report[-1] != '' or objects[-1] != '' or len(report) != len(objects):
         yield f'{len(report) - 1} lines, and {len(objects) - 1} objects'
     for text, line in zip(objects[:-1], report[:-1]):

@@ -146,10 +146,22 @@ words() {
     printf '[names]\n"20 40" = "ALIGN"\n' > "$work/captures/<deck>.toml"
     page_of "$remote C 20 40 60 $ack" --deck '<deck>.toml'
     has 'a sheet' ', deck sheet &lt;deck&gt;.toml <code>--all --deck '\''&lt;deck&gt;.toml'\''</code>' '<span>ALIGN &rarr; ACK'
+    # HTML holds no control characters: each byte of one is three digits, and the command is one that bash takes.
+    name=$'it\'s\ta\x01\x7f\xc2\x85.csv'
+    page_of "$remote"
+    has 'control characters' "<p class=\"file\">it's\\011a\\001\\177\\302\\205.csv</p>" "<title>0 breaks: it's\\011a\\001\\177\\302\\205.csv</title>" \
+        "<code>ninecheck page \$'it\\'s\\011a\\001\\177\\302\\205.csv'</code>"
+    judge 'no control character' lacks_controls "$work/out"
+    (cd "$work/captures" && eval "\"$program\" $(sed -n 's/.*Made by <code>ninecheck \(.*\)<\/code>, ninecheck.*/\1/p' "$work/out")") > "$work/made" 2> "$work/err"
+    judge 'the command makes the page again' cmp "$work/made" "$work/out"
+    name=night.csv
     page_of "D 91 $remote" --sync
     has 'a capture that begins in the middle' '<h1>0 breaks</h1>' 'Every record that was judged keeps the rules' \
         'from the first record that may begin a command <code>--all --sync</code>' '<dt>Passed over</dt><dd>1</dd>'
 }
+
+# lacks_controls FILE: it has no control character but line feeds.
+lacks_controls() { ! LC_ALL=C grep -q $'[\x01-\x09\x0b-\x1f\x7f]\|\xc2[\x80-\x9f]' "$1"; }
 
 # What the capture says of itself stands above all, and the reasons that it puts in doubt say so.
 signs() {
@@ -167,6 +179,23 @@ commanded() {
     page_of "$remote $play C +2800 61 20 12 93 D 72 20 20 00 B2 C +17600 61 20 12 93 D 72 20 20 00 B2 +10400 C 61"
     has 'a commanded mode' '<title>Shown and commanded mode over time: STOP, PLAY</title>' '<span>STOP</span><span>PLAY</span>' \
         '<path class="state" d=""/><path class="goal" d="M'
+    # A mode that only the last reply shows is drawn at the end.
+    page_of "$remote C 61 20 12 93 D 72 20 01 00 93"
+    has 'a mode at the end' '<b>Shown mode</b>' '<path class="state" d="M998.33 11v-2.8H1000.00v2.8z"/>'
+    lacks 'a mode at the end' 'Never known: Shown mode'
+}
+
+# Labels of the axis that are long are fewer, and fewer still in a page that is not wide: five seconds of a log with a clock, and 1.2
+# milliseconds of one.
+labels() {
+    page_of "C +52247000000 20 01 21 $ack C +5000000 20 01 21"
+    has 'five seconds of a clock' '<div class="chart axis long">' '>14:30:47</span>' '>14:30:52</span>'
+    counts 'five seconds of a clock' 6 '<span style="left:'
+    page_of "C +52247000000 20 D +1200 10"
+    has '1.2 milliseconds of a clock' '<div class="chart axis long">' '>14:30:47.0000</span>' '>14:30:47.0012</span>'
+    counts '1.2 milliseconds of a clock' 7 '<span style="left:'
+    page_of "$(session_of 400 18000)"
+    lacks 'short labels' 'axis long"'
 }
 
 # A stretch in the whole width: all is judged, and only what comes in it is shown.
@@ -178,7 +207,49 @@ stretches() {
         '<span>2 commands</span>'
     lacks 'a stretch' 'STATUS SENSE &rarr;'
     page_of "$play D 10 $play +20400 $play D 10" --from 0.01
-    has 'breaks of a stretch' '<h1 class="bad">1 break</h1>' 'Record <a href="#r20">20</a>'
+    has 'breaks of a stretch' '<h1 class="bad">1 break in this stretch, 1 outside of it</h1>' 'Record <a href="#r20">20</a>' \
+        'Outside of this stretch, record 7 at 00:00:00.002 breaks a rule: P1 reply without a command.'
+    page_of "C 20 01 21 +9400 D 10 01 11 D 10 $play +20400 $play" --from 0.02
+    judge "breaks outside of a stretch" [ "$status" = 1 ]
+    has 'breaks outside of a stretch' '<title>0 breaks in this stretch, 2 outside of it: night.csv</title>' \
+        '<h1 class="bad">0 breaks in this stretch, 2 outside of it</h1>' \
+        '<p class="lead">No record of this stretch breaks a rule. Outside of this stretch there are 2 breaks. The first is record 4 at 00:00:00.010: L1 late reply.</p>' \
+        '<p>No record of this stretch breaks a rule. Outside of this stretch there are 2 breaks.'
+    lacks 'breaks outside of a stretch' 'keeps the rules' 'can have given these replies' '<p>No record breaks a rule.'
+    # A stretch in which no exchange ends.
+    page_of "$play +20400 $play" --from 0.01 --to 0.02
+    has 'no exchange in a stretch' '<h1>0 breaks</h1>' \
+        'Every record keeps the rules, and a deck can have given these replies. No exchange ends in this stretch.' \
+        'Traffic, Reply delay: no exchange ends in this stretch' '<p>Nothing: no exchange ends in this stretch.</p>' \
+        '<p>No transport command was acknowledged in this stretch.</p>'
+    counts 'no exchange in a stretch' 2 '<p>No exchange ends in this stretch.</p></section>'
+    lacks 'no exchange in a stretch' 'o exchange is complete' 'known at 0.0 %'
+    # One that lies before the capture, and one behind it.
+    for words in '--to 0.0004' '--from 10'; do
+        # shellcheck disable=SC2086
+        page_of "$play" $words
+        has "a stretch that misses the capture, $words" '<dt>Shown</dt><dd>nothing: the stretch misses the capture</dd>' \
+            '<p>No record is in this stretch.</p>'
+        lacks "a stretch that misses the capture, $words" 'Shown from' 'no records'
+    done
+}
+
+# A command that was not obeyed stands in the head, and what is worth looking at begins with what went on for longest. The statuses end
+# 0.603200, 40.003200 and 0.903200 seconds after the acknowledgements.
+not_obeyed() {
+    local stop='C 20 00 20 D 10 01 11' plays='61 20 12 93 D 72 20 01 00 93' stands='61 20 12 93 D 72 20 20 00 B2'
+    page_of "$stop C +600000 $plays $play C +40000000 $stands $stop C +900000 $plays"
+    judge 'a command that was not obeyed' [ "$status" = 0 ]
+    has 'a command that was not obeyed' \
+        '<p class="lead"><a href="#look">PLAY was not obeyed for 40.0 s</a>, from record 21 at 00:00:00.608 on. No rule says how soon a deck obeys.</p>' \
+        '<p>Worth looking at: 3.</p>'
+    judge 'the longest first' [ "$(sed -n '/<p>Worth/,/<\/ol>/p' "$work/out" | grep -o '>record [0-9]*' | tr '\n' ' ')" = '>record 21 >record 36 >record 6 ' ]
+    page_of "$stop C +300000 $plays"
+    has 'less than half a second' 'Nothing stands out.' 'STOP: STOP not shown, 1 status over 0.30'
+    lacks 'less than half a second' 'was not obeyed'
+    # More than a hundred: each for a second, on a page of its own list.
+    page_of "$(repeated 103 "$stop C +1000000 $plays")"
+    has 'more than a hundred' '<p>Worth looking at: 103.</p>' '<summary>98 more</summary>' '3 more are not listed: none went on for longer.'
 }
 
 # Captures of which there is little to tell.
@@ -215,11 +286,32 @@ limits() {
     lacks 'more than three hundred breaks' 'class="mark"'
     page_of "$(repeated 250 "$play")"
     counts 'two hundred lines of a fold' 200 '<span>PLAY &rarr; ACK'
-    has 'two hundred lines of a fold' '50 more lines are not listed: <code>ninecheck digest</code> has all.' \
+    has 'two hundred lines of a fold' '50 more lines are not listed: <code>ninecheck digest --all night.csv</code> has all.' \
         '<details><summary><span>00:00</span><span>250 commands</span>'
+    has_all digest 252
     capture_of "$(for k in {16..60}; do echo "C 20 $(printf '%02X %02X' "$k" "$((k + 32))") $ack"; done)"
     page
-    has 'forty commands' ' more commands are not listed: <code>ninecheck delays</code> has all.'
+    has 'forty commands' ' more commands are not listed: <code>ninecheck delays --all night.csv</code> has all.'
+    all_is_had
+}
+
+# has_all COMMAND LINES: this command of the page has at least so many lines.
+has_all() {
+    local command
+    command=$(grep -o "<code>ninecheck $1 [^<]*</code> has all" "$work/out" | head -n 1 | sed 's/^<code>ninecheck //; s/<.*//; s/&#39;/'"'"'/g')
+    judge "$1 has all: $command" has_lines_of "$2" "$command"
+}
+has_lines_of() { [ -n "$2" ] && (cd "$work/captures" && eval "\"$program\" $2" | awk -v least="$1" 'END { exit NR < least }'); }
+
+# Each command that "has all" of what a page leaves out is run as it stands there, with the words that the page was asked for, and has
+# as many lines as the page says. Forty commands are 45 here, each refused once and so with hands and at a rate of its own.
+all_is_had() {
+    page --hands --rate 24 --from 0.0004 --to 10
+    has 'the words of the page' '<code>ninecheck delays --all --hands --rate 24 --from 0.000400 --to 10.000000 night.csv</code> has all.'
+    has_all delays 45
+    page_of "$(repeated 310 "$play +298000")" --hands
+    has 'three hundred commands' '10 more are not listed: <code>ninecheck motion --all --hands night.csv</code> has all.'
+    has_all motion 312
 }
 
 # Lines beyond ten thousand, in folds of a minute and of ten.
@@ -268,7 +360,9 @@ contradiction
 words
 signs
 commanded
+labels
 stretches
+not_obeyed
 little
 limits
 refusals

@@ -18,6 +18,7 @@ refused_sense='C 60 11 71 D 11 12 01 24'
 polled_time='C 61 0C 01 6E D 74 04 00 00 00 01 79'
 in_249_on='C 60 10 70 D 74 10 24 09 00 10 C1'
 in_at_11='C 60 10 70 D 74 10 00 00 00 11 95'
+no_mode='C 61 20 12 93 D 72 20 09 00 9B'
 
 # page_of CAPTURE [WORDS...]: the page of that with these words, in $work/page, and its section of the breaks in $work/out; and what
 # `why` says of it, in $work/why.
@@ -165,6 +166,9 @@ names() {
     same 'a name of a sheet' "$(summaries)" \
         'r7: 00:00:00.002 record 7 P1 reply without a command After the reply to FULL EE ON the deck sent 10, 400 µs later.'
     judge "text with marks" grep -qF 'FULL EE ON 40 2D 6D -&gt; 10 01 11' "$work/out"
+    judge 'the picture has the name' grep -q '^<text.*>FULL EE ON</text>' "$work/out"
+    "$program" picture --deck "$work/deck.toml" "$work/capture.csv" > "$work/made" 2> "$work/err"
+    judge 'and so has the picture alone' grep -q '^<text.*>FULL EE ON</text>' "$work/made"
 }
 
 # without_looks: the boxes, lines and texts of a picture, but for how they look.
@@ -248,6 +252,11 @@ in_a_row() {
 r13: 00:00:00.053 record 13 L2 no reply STOP got no reply; the next command came 12,400 µs after it.
 r22: 00:00:00.068 record 22 L2 no reply PLAY got no reply; the next command came 12,400 µs after it.'
     judge 'they count each' grep -qF '<td class="count">5</td>' "$work/out"
+    # A status whose data fit no mode, twice in a row and once behind another exchange.
+    section "$remote $no_mode $no_mode $play $no_mode"
+    same 'equal contradictions in a row' "$(summaries)" \
+        'r17: 00:00:00.006 record 17 M1 no run remains No deck can have given this reply. 2 in a row, the last at record 26, 00:00:00.010.
+r41: 00:00:00.016 record 41 M1 no run remains No deck can have given this reply.'
 }
 
 # offered_works NAME: each command that the page offers, with the record 400 in the place of RECORD, is one that the program
@@ -259,7 +268,7 @@ offered_works() {
         (cd "$work" && eval "\"$program\" ${command//RECORD/400}") > "$work/made" 2> "$work/err"
         judge "$1: $command" [ $? = 1 ]
     done < <(grep -o '<code>ninecheck [a-z]* --all[^<]*</code>' "$work/page" | plain | sed 's/^ninecheck //')
-    judge "$1: it offers $offered commands" [ "$offered" = 2 ]
+    judge "$1: it offers $offered commands" [ "$offered" = 4 ]
 }
 
 # What a long list leaves out.
@@ -294,9 +303,25 @@ drawn
 in_a_row
 limits
 
-# 51 contradictions of 253 replies each: once the page has 10,000 of them, it has fewer of each.
+# is_small NAME BREAKS: the page is below 5 MB, and tells each of these breaks, or how many more there are.
+is_small() {
+    local unlisted
+    unlisted=$(paragraphs | sed -n 's/^\([0-9,]*\) more breaks are not listed.*/\1/p' | tr -d ,)
+    judge "$1: the page is small" [ "$(wc -c < "$work/page")" -lt 5000000 ]
+    judge "$1: it tells of all" [ $(($(summaries | wc -l) + ${unlisted:-0})) = "$2" ]
+}
+
+# Contradictions of 253 replies each: 200 of the first are listed before the last, and of those behind many bytes ten.
 section "$(repeated 51 "$remote $preset $(repeated 250 "$shift") $in_249_on")"
-judge 'contradictions with very many replies' [ "$(grep -c '^<li>' "$work/out")" = $((50 * 201 + 11)) ]
+is_small 'contradictions with very many replies' 51
+judge 'the first have many' [ "$(sed -n '0,/<\/ol>/p' "$work/out" | grep -c '^<li>')" = 201 ]
+judge 'the last have few' [ "$(sed -n '/id="r'"$(summaries | tail -n 1 | sed 's/^r\([0-9]*\).*/\1/')"'"/,/<\/ol>/p' "$work/out" | grep -c '^<li>')" = 11 ]
+
+# A thousand parts with a contradiction of eleven replies each.
+parts=1000
+smaller parts 100 'parts with a contradiction'
+section "$(repeated "$parts" "$remote $preset $(repeated 8 "$shift") $in_at_11")"
+is_small 'many contradictions' "$parts"
 
 # The page is HTML without an error.
 page_of examples/views/late-replies.csv

@@ -79,11 +79,11 @@ capture_of "$(for ((k = 0; k < 103; k++)); do echo "C 20 01 21 D +$((9288 + k * 
 run delays --all "$work/capture.csv"
 judge 'more late replies than are listed' writes 1 "$work/want"
 
-# 102 times STOP, of a deck that shows PLAY: a turn has 15 records, 6,000 microseconds.
-records "C 20 00 20 $ack C 61 20 12 93 D 72 20 01 00 93" 102 > "$work/capture.csv"
+# 102 times STOP, of a deck that shows PLAY: a turn has 15 records, 605,600 microseconds.
+records "C 20 00 20 $ack C +600000 61 20 12 93 D 72 20 01 00 93" 102 > "$work/capture.csv"
 for ((k = 0; k < 102; k++)); do
-    printf 'record %d, %d.%06d s: STOP: STOP not shown, 1 status over 0.003600 s (PLAY 1)\n' \
-        $((15 * k + 6)) $(((6000 * k + 2400) / 1000000)) $(((6000 * k + 2400) % 1000000))
+    printf 'record %d, %d.%06d s: STOP: STOP not shown, 1 status over 0.603200 s (PLAY 1)\n' \
+        $((15 * k + 6)) $(((605600 * k + 2400) / 1000000)) $(((605600 * k + 2400) % 1000000))
 done > "$work/lines"
 {
     echo 'what the deck did after each transport command that it acknowledged; nothing is judged, a deck may take any time'

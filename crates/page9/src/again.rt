@@ -1,5 +1,6 @@
 //! How a command of the program is asked again of the capture that the page shows.
 
+use crate::html::put_counted;
 use text9::Markup;
 
 /// What stands behind a command of the program, as a shell takes it.
@@ -21,12 +22,30 @@ impl Again<'_> {
         put_word(html, self.file);
     }
 
-    /// Puts the command that makes the same page.
-    pub(crate) fn put_page(&self, html: &mut Markup) {
-        html.put_mark("ninecheck page");
+    /// Puts a command that judges it so too, and shows the same stretch.
+    pub(crate) fn put_shown(&self, html: &mut Markup, subcommand: &'static str) {
+        html.put_marks(&["ninecheck ", subcommand]);
         put_word(html, self.options);
         put_word(html, self.stretch);
         put_word(html, self.file);
+    }
+
+    /// Puts how many of something are not listed, and which command has them all; nothing where all are.
+    pub(crate) fn put_rest(
+        &self,
+        html: &mut Markup,
+        number: u64,
+        (noun, plural): (&'static str, &'static str),
+        subcommand: &'static str,
+    ) {
+        if number == 0 {
+            return;
+        }
+        html.put_mark("<p class=\"note\">");
+        put_counted(html, number, noun, plural);
+        html.put_mark(" not listed: <code>");
+        self.put_shown(html, subcommand);
+        html.put_mark("</code> has all.</p>\n");
     }
 }
 

@@ -7,6 +7,12 @@ use text9::Markup;
 /// How many ticks there are at most.
 const MOST_TICKS: u64 = 11;
 
+/// How many characters of the labels have room beside one another in a page that is 1,280 pixels wide, each label with a blank behind it.
+const MOST_LETTERS: u64 = 106;
+
+/// How many characters a label has at most of which each has room in a page of 901 pixels.
+const SHORT_LETTERS: u64 = 5;
+
 /// The steps between ticks, in microseconds.
 const STEPS_US: [u64; 36] = [
     1,
@@ -78,27 +84,58 @@ pub(crate) struct Axis {
 impl Axis {
     /// The axis of a session: the smallest step that has few enough ticks.
     pub(crate) fn of(span: Span) -> Axis {
-        let mut step_us = STEPS_US[35];
-        for step in STEPS_US.iter().rev() {
-            if ticks_by(span, *step) <= MOST_TICKS {
-                step_us = *step;
-            }
-        }
-        for _ in 0..64 {
-            if ticks_by(span, step_us) > MOST_TICKS {
-                step_us = step_us.saturating_mul(2);
-            }
-        }
         let clock = match span.to_us {
             0..60_000_000 => Clock::Seconds,
             60_000_000..3_600_000_000 => Clock::Minutes,
             _ => Clock::Hours,
         };
-        Axis {
+        let mut axis = Axis {
             span,
-            step_us,
+            step_us: STEPS_US[35],
             clock,
+        };
+        for step in STEPS_US.iter().rev() {
+            let finer = Axis {
+                step_us: *step,
+                ..axis
+            };
+            if finer.has_room() {
+                axis = finer;
+            }
         }
+        for _ in 0..64 {
+            if !axis.has_room() {
+                axis.step_us = axis.step_us.saturating_mul(2);
+            }
+        }
+        axis
+    }
+
+    /// Whether its labels have room beside one another.
+    fn has_room(self) -> bool {
+        let room = MOST_LETTERS
+            .checked_div(self.letters().saturating_add(1))
+            .unwrap_or(0);
+        self.ticks() <= room.min(MOST_TICKS)
+    }
+
+    /// How many characters the longest label has.
+    fn letters(self) -> u64 {
+        let seconds = self.span.to_us / 1_000_000;
+        let whole = match self.clock {
+            Clock::Seconds => digits(seconds),
+            Clock::Minutes => digits(seconds / 60).saturating_add(3),
+            Clock::Hours => digits(seconds / 3_600).saturating_add(6),
+        };
+        match self.decimals() {
+            Some((places, _)) => whole.saturating_add(u64::from(places)).saturating_add(1),
+            None => whole,
+        }
+    }
+
+    /// Whether its labels are so long that a narrower page has no room for each.
+    pub(crate) fn is_long(self) -> bool {
+        self.letters() > SHORT_LETTERS
     }
 
     /// How many ticks there are.
@@ -125,18 +162,31 @@ impl Axis {
 
     /// Puts as many decimals of a tick's seconds as the step has.
     fn put_decimals(self, html: &mut Markup, us: u64) {
-        let (places, unit_us) = match self.step_us {
-            0..10 => (6, 1),
-            10..100 => (5, 10),
-            100..1_000 => (4, 100),
-            1_000..10_000 => (3, 1_000),
-            10_000..100_000 => (2, 10_000),
-            100_000..1_000_000 => (1, 100_000),
-            _ => return,
+        let Some((places, unit_us)) = self.decimals() else {
+            return;
         };
+        let decimals = (us % 1_000_000).checked_div(unit_us).unwrap_or(0);
         html.put_mark(".");
-        put_padded(html, us % 1_000_000 / unit_us, places);
+        put_padded(html, decimals, places);
     }
+
+    /// How many decimals the step has, and how many microseconds the last one counts; none where it is of whole seconds.
+    fn decimals(self) -> Option<(u32, u64)> {
+        match self.step_us {
+            0..10 => Some((6, 1)),
+            10..100 => Some((5, 10)),
+            100..1_000 => Some((4, 100)),
+            1_000..10_000 => Some((3, 1_000)),
+            10_000..100_000 => Some((2, 10_000)),
+            100_000..1_000_000 => Some((1, 100_000)),
+            _ => None,
+        }
+    }
+}
+
+/// How many digits a number has.
+fn digits(number: u64) -> u64 {
+    u64::from(number.checked_ilog10().unwrap_or(0)).saturating_add(1)
 }
 
 /// The first tick in a session with this step.

@@ -3,6 +3,7 @@
 mod contradiction;
 mod disputed;
 mod listed;
+mod outside;
 mod reasons;
 mod section;
 mod sentences;
@@ -14,6 +15,7 @@ use capture9::LineByte;
 use contradiction::put_list;
 use deck9::Profile;
 use listed::Listed;
+pub(crate) use outside::Outside;
 use picture9::BreakPictures;
 pub(crate) use reasons::ReasonCount;
 use reasons::Reasons;
@@ -24,19 +26,22 @@ use sentences::put_sentence;
 use std::alloc::{AllocError, Global};
 use text9::{Done, Markup};
 use view9::BreakRun;
-use why::{put_why, replies_of};
+use why::put_why;
 
-/// How many breaks are listed: the first.
+/// How many breaks are listed at most: the first.
 const MOST_LISTED: usize = 1_000;
+
+/// How many bytes they may take: a break is listed while those before it take fewer. So the page stays small.
+const MOST_BYTES: usize = 1_500_000;
 
 /// How many replies of one contradiction are listed before the last.
 const MOST_REPLIES: usize = 200;
 
-/// How many are once many replies were listed, so that the page stays small.
+/// How many are once those of the breaks before take many bytes.
 const FEWER_REPLIES: usize = 10;
 
-/// How many replies are many.
-const MANY_REPLIES: usize = 10_000;
+/// How many bytes are many.
+const MANY_BYTES: usize = 750_000;
 
 /// The first break or late reply of a capture, as the head of the page tells it.
 #[derive(Clone, Copy)]
@@ -59,8 +64,9 @@ pub(crate) struct Breaks<'a> {
     profile: &'a Profile,
     reasons: Reasons<'a>,
     listed: Vec<Listed>,
-    /// How many breaks and late replies came.
+    /// How many breaks and late replies are shown.
     count: u64,
+    outside: Outside,
     /// How many of them are in no entry.
     unlisted: u64,
     /// The last ones that came, as far as they are equal.
@@ -69,11 +75,11 @@ pub(crate) struct Breaks<'a> {
     is_in_a_row: bool,
     /// Whether it is in an entry.
     is_last_listed: bool,
-    /// How many replies that contradict one another are listed.
-    replies: usize,
+    /// How many bytes the entries take.
+    bytes: usize,
     /// The times of those of the last break.
     times: Vec<u64>,
-    pictures: BreakPictures,
+    pictures: BreakPictures<'a>,
 }
 
 impl<'a> Breaks<'a> {
@@ -85,13 +91,14 @@ impl<'a> Breaks<'a> {
             reasons: Reasons::new(alloc),
             listed: Vec::new(alloc),
             count: 0,
+            outside: Outside::NONE,
             unlisted: 0,
             run: None,
             is_in_a_row: false,
             is_last_listed: false,
-            replies: 0,
+            bytes: 0,
             times: Vec::new(alloc),
-            pictures: BreakPictures::new(alloc, beginning),
+            pictures: BreakPictures::new(alloc, profile, beginning),
         }
     }
 
@@ -120,7 +127,7 @@ impl<'a> Breaks<'a> {
         self.run = Some(BreakRun::new(broken));
         self.is_in_a_row = true;
         self.pictures.ask(broken.at, broken.reason)?;
-        self.is_last_listed = self.listed.len() < MOST_LISTED;
+        self.is_last_listed = self.listed.len() < MOST_LISTED && self.bytes < MOST_BYTES;
         if !self.is_last_listed {
             self.unlisted = self.unlisted.saturating_add(1);
             return Ok(None);
@@ -129,10 +136,11 @@ impl<'a> Breaks<'a> {
         Ok(Some(id))
     }
 
-    /// Takes a break that is not shown, at this record by this reason.
-    pub(crate) fn pass(&mut self, at: u32, reason: Reason) {
+    /// Takes a break or a late reply that is not shown.
+    pub(crate) fn pass(&mut self, broken: &SeenBreak) {
         self.is_in_a_row = false;
-        self.pictures.pass(at, reason);
+        self.outside.take(broken);
+        self.pictures.pass(broken.at, broken.reason);
     }
 
     /// Takes an exchange: the break that comes next follows none in a row.
@@ -150,12 +158,11 @@ impl<'a> Breaks<'a> {
         self.pictures.end()
     }
 
-    /// Whether a break is equal to the last ones, and follows them in a row: then it is one of them. Late replies and contradictions are
-    /// each told by themselves.
+    /// Whether a break is equal to the last ones, and follows them in a row: then it is one of them. Late replies are each told by
+    /// themselves.
     fn is_equal(&mut self, next: &SeenBreak) -> bool {
-        let is_alone = matches!(next.reason, Reason::LateReply | Reason::NoRun);
         match &mut self.run {
-            Some(run) if self.is_in_a_row && !is_alone => run.take(next),
+            Some(run) if self.is_in_a_row && next.reason != Reason::LateReply => run.take(next),
             _ => false,
         }
     }
@@ -173,24 +180,28 @@ impl<'a> Breaks<'a> {
 
     /// Lists a break.
     fn list(&mut self, why: &WhyNo, broken: &SeenBreak, id: BreakId) -> Done {
-        let most = if self.replies < MANY_REPLIES {
+        let most = if self.bytes < MANY_BYTES {
             MOST_REPLIES
         } else {
             FEWER_REPLIES
         };
-        let kept = replies_of(why).min(most.saturating_add(1));
-        self.replies = self.replies.saturating_add(kept);
         let mut entry = Listed::new(self.alloc, id, broken);
         let time_us = broken.time_us;
         put_sentence(&mut entry.sentence, self.profile, why, time_us)?;
         put_why(&mut entry.why, self.profile, why, most)?;
         put_list(&mut entry.replies, &mut self.times, self.profile, why, most)?;
+        self.bytes = self.bytes.saturating_add(entry.len());
         Ok(self.listed.push(entry)?)
     }
 
-    /// How many breaks and late replies came.
+    /// How many breaks and late replies are shown.
     pub(crate) fn count(&self) -> u64 {
         self.count
+    }
+
+    /// Those that are not.
+    pub(crate) fn outside(&self) -> Outside {
+        self.outside
     }
 
     /// The reasons with their counts, the most frequent first.
@@ -198,7 +209,7 @@ impl<'a> Breaks<'a> {
         self.reasons.ordered()
     }
 
-    /// The first break or late reply.
+    /// The first break or late reply that is shown.
     pub(crate) fn first(&self) -> Option<FirstBreak<'_>> {
         let first = self.listed.first()?;
         let broken = &first.run.first;

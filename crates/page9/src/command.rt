@@ -1,8 +1,9 @@
 //! The words with which the page was asked for, as a shell takes them again.
 
+use crate::name::put_word;
 use crate::page::PageOf;
 use deck9::{Hands, Profile};
-use report9::{Beginning, Stretch, TextBuffer, put_text};
+use report9::{Beginning, Stretch, put_text};
 use std::alloc::{AllocError, Global};
 use tc25::Rate;
 use text9::{Done, put_seconds};
@@ -37,7 +38,7 @@ impl Words {
                 &mut words.file,
                 if file.starts_with(b"-") { "-- " } else { "" },
             )?;
-            put_name(&mut words.file, file)?;
+            put_word(&mut words.file, file)?;
         }
         Ok(words)
     }
@@ -57,7 +58,7 @@ fn put_options(options: &mut Vec<u8>, page: &PageOf<'_>, profile: &Profile) -> D
     }
     for sheet in page.sheets {
         put_option(options, "--deck ")?;
-        put_name(options, sheet.as_bytes())?;
+        put_word(options, sheet.as_bytes())?;
     }
     Ok(())
 }
@@ -81,24 +82,4 @@ fn put_option(options: &mut Vec<u8>, option: &str) -> Done {
         put_text(options, " ")?;
     }
     put_text(options, option)
-}
-
-/// Puts a name as a shell takes it: in quotes where it would take a part of it otherwise.
-fn put_name(words: &mut Vec<u8>, name: &[u8]) -> Done {
-    if !name.is_empty() && name.iter().all(|byte| is_plain(*byte)) {
-        return words.put(name);
-    }
-    put_text(words, "'")?;
-    for byte in name {
-        match byte {
-            b'\'' => put_text(words, "'\\''")?,
-            byte => words.push(*byte)?,
-        }
-    }
-    put_text(words, "'")
-}
-
-/// Whether a shell takes a byte of a word as it stands.
-fn is_plain(byte: u8) -> bool {
-    byte.is_ascii_alphanumeric() || b"_.,/+:=@%-".contains(&byte)
 }

@@ -64,7 +64,7 @@ fn doubt_by(what: &Seeming, reason: Reason) -> Option<&'static str> {
         ),
         Seeming::WrongRate { .. } => (
             is_of_rate(reason),
-            "In doubt: the times fit another frame rate. <code>ninecheck info</code> says which.",
+            "In doubt: the times fit another frame rate: what to look at first, above, says which.",
         ),
         Seeming::OneBehind { .. } => (
             reason == Reason::WrongReply,

@@ -4,7 +4,9 @@
 //! folds begin as minutes, and as soon as the session has become too long for them those so far are merged to wider ones. A line that
 //! counts queries at the end of a minute then stays inside the wider fold.
 
-use crate::html::{put_counted, put_hours_and_minutes, put_rest};
+use crate::again::Again;
+use crate::html::{put_counted, put_hours_and_minutes};
+use crate::shown::Shown;
 use std::alloc::{AllocError, Global};
 use text9::{Done, Growing, Markup};
 
@@ -170,12 +172,12 @@ impl Folds {
     }
 
     /// Puts them. An error comes where memory was refused for one, or for a line.
-    pub(crate) fn put(&self, html: &mut Markup) -> Done {
+    pub(crate) fn put(&self, html: &mut Markup, extent: Shown, again: &Again<'_>) -> Done {
         if self.folds.is_short() || self.lines.is_short() {
             return Err(AllocError);
         }
         if self.folds.is_empty() {
-            html.put_mark("<p>Nothing: no exchange is complete.</p>\n");
+            html.put_marks(&["<p>Nothing: no ", extent.exchange_missing(), ".</p>\n"]);
             return Ok(());
         }
         let is_open = self.lines.len() <= MOST_OPEN;
@@ -183,7 +185,7 @@ impl Folds {
         for fold in self.folds.as_slice() {
             let to = from.saturating_add(fold.kept as usize);
             let lines = self.lines.as_slice().get(from..to).unwrap_or(&[]);
-            fold.put(html, lines, is_open);
+            fold.put(html, lines, is_open, again);
             from = to;
         }
         Ok(())
@@ -220,7 +222,7 @@ impl Fold {
     }
 
     /// Puts it with these lines.
-    fn put(&self, html: &mut Markup, lines: &[Markup], is_open: bool) {
+    fn put(&self, html: &mut Markup, lines: &[Markup], is_open: bool, again: &Again<'_>) {
         html.put_mark(if is_open {
             "<details open><summary><span>"
         } else {
@@ -235,7 +237,12 @@ impl Fold {
         }
         html.put_mark("</ol>\n");
         let others = self.lines.saturating_sub(self.kept);
-        put_rest(html, others, ("more line is", "more lines are"), "digest");
+        again.put_rest(
+            html,
+            others,
+            ("more line is", "more lines are"),
+            "digest --all",
+        );
         html.put_mark("</details>\n");
     }
 

@@ -6,6 +6,7 @@ use crate::delay_table::DelayTable;
 use crate::happened::Happened;
 use crate::look::Look;
 use crate::session::Session;
+use crate::shown::Shown;
 use crate::span::Window;
 use crate::touches::Touches;
 use block9::Reason;
@@ -52,7 +53,7 @@ impl<'a, S: MoveSearch> Following<'a, S> {
         let profile = of.profile;
         Following {
             profile,
-            session: Session::new(alloc, window, profile),
+            session: Session::new(alloc, window, Shown::of(of.stretch), profile),
             breaks: Breaks::new(alloc, profile, of.scope.beginning),
             happened: Happened::new(alloc, profile),
             delays: DelayTable::new(alloc, profile),
@@ -118,6 +119,7 @@ impl<S: MoveSearch> View for Following<'_, S> {
 
     fn late(&mut self, late: &SeenBreak) -> Result<(), JudgeError> {
         if !late.is_shown {
+            self.breaks.pass(late);
             return Ok(());
         }
         if let (Some(why), Some(delay_us)) = (&self.why, late.delay_us) {
@@ -134,7 +136,7 @@ impl<S: MoveSearch> View for Following<'_, S> {
         if broken.is_shown {
             return Ok(self.take_break(broken)?);
         }
-        self.breaks.pass(broken.at, broken.reason);
+        self.breaks.pass(broken);
         self.happened.forget();
         Ok(())
     }

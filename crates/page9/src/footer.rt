@@ -20,7 +20,7 @@ pub(crate) fn put_footer(
     html.put_mark("<footer>\n<p><code>");
     html.put_foreign(line);
     html.put_mark("</code></p>\n<p>Made by <code>");
-    again.put_page(html);
+    again.put_shown(html, "page");
     html.put_mark("</code>, ");
     let version = page.version.strip_suffix(b"\n").unwrap_or(&[]);
     html.put_foreign(version);

@@ -1,10 +1,12 @@
 //! What happened: each command, each query that changed what is known of the deck or what it may do by itself, and each break, in a fold
 //! for each stretch of time.
 
+use crate::again::Again;
 use crate::folds::{Counted, Folds};
 use crate::html::{
     BreakId, begin_line, begin_link, end_line, end_link, put_note, put_reason, put_run,
 };
+use crate::shown::Shown;
 use block9::Reason;
 use deck9::Profile;
 use report9::{put_command, put_reply};
@@ -106,14 +108,14 @@ impl<'a> Happened<'a> {
     }
 
     /// Puts the section, after all of the session.
-    pub(crate) fn put(&mut self, html: &mut Markup) -> Done {
+    pub(crate) fn put(&mut self, html: &mut Markup, extent: Shown, again: &Again<'_>) -> Done {
         self.put_since()?;
         html.put_mark("<section id=\"happened\"><h2>What happened</h2>\n");
         put_note(
             html,
             "Each command, and each query that changed what is known of the deck. The other queries are counted.",
         );
-        self.folds.put(html)?;
+        self.folds.put(html, extent, again)?;
         html.put_mark("</section>\n");
         Ok(())
     }

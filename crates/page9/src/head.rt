@@ -1,7 +1,8 @@
 //! The head of the page: how many breaks there are and which, of what capture, judged with what, and what the capture says of itself.
 
-use crate::breaks::{Breaks, ReasonCount};
+use crate::breaks::{Breaks, FirstBreak, ReasonCount};
 use crate::html::{begin_link, put_counted, put_lasting};
+use crate::name::put_name;
 use crate::page::PageOf;
 use crate::span::Span;
 use crate::style::put_style;
@@ -9,8 +10,8 @@ use deck9::{Hands, Profile};
 use info9::Sign;
 use report9::{Beginning, Totals};
 use tc25::Rate;
-use text9::Markup;
-use view9::{Field, Strength};
+use text9::{Markup, Text};
+use view9::{Field, NotObeyed, Strength};
 
 /// What the head tells of the capture.
 #[derive(Clone, Copy)]
@@ -24,18 +25,20 @@ pub(crate) struct Told<'a> {
     pub(crate) signs: &'a [Option<Sign>],
     /// From when to when the capture is, where it has a record.
     pub(crate) whole: Option<Span>,
-    /// From when to when it is shown.
+    /// From when to when it is shown; none where nothing of it is.
     pub(crate) shown: Option<Span>,
+    /// The command that was not obeyed for longest.
+    pub(crate) not_obeyed: Option<NotObeyed<'a>>,
 }
 
 /// Puts the title of the page and how it looks.
-pub(crate) fn put_title(html: &mut Markup, page: &PageOf<'_>, breaks: u64) {
+pub(crate) fn put_title(html: &mut Markup, page: &PageOf<'_>, breaks: &Breaks<'_>) {
     html.put_mark(
         "<!DOCTYPE html>\n<html lang=\"en\">\n<head>\n<meta charset=\"utf-8\">\n\
         <meta name=\"viewport\" content=\"width=device-width, initial-scale=1\">\n\
         <meta name=\"color-scheme\" content=\"light dark\">\n<title>",
     );
-    put_counted(html, breaks, "break", "breaks");
+    put_count(html, breaks);
     html.put_mark(": ");
     put_file(html, page);
     html.put_mark("</title>\n");
@@ -43,10 +46,19 @@ pub(crate) fn put_title(html: &mut Markup, page: &PageOf<'_>, breaks: u64) {
     html.put_mark("</head>\n<body>\n<main>\n");
 }
 
+/// Puts how many breaks there are, and where some come outside of the stretch that is shown, how many on each side of its bounds.
+fn put_count(html: &mut Markup, breaks: &Breaks<'_>) {
+    put_counted(html, breaks.count(), "break", "breaks");
+    let outside = breaks.outside().count();
+    if outside > 0 {
+        html.put_filled(" in this stretch, {c} outside of it", &[outside]);
+    }
+}
+
 /// Puts what the capture is called.
 fn put_file(html: &mut Markup, page: &PageOf<'_>) {
     match page.file {
-        Some(file) => html.put_foreign(file),
+        Some(file) => put_name(html, file),
         None => html.put_mark("standard input"),
     }
 }
@@ -59,18 +71,19 @@ pub(crate) fn put_head(
     told: &Told<'_>,
     options: &[u8],
 ) {
-    let breaks = told.breaks.count();
+    let is_broken = told.breaks.count() > 0 || told.breaks.outside().count() > 0;
     html.put_mark("<header>\n<p class=\"file\">");
     put_file(html, page);
-    html.put_mark(if breaks > 0 {
+    html.put_mark(if is_broken {
         "</p>\n<h1 class=\"bad\">"
     } else {
         "</p>\n<h1>"
     });
-    put_counted(html, breaks, "break", "breaks");
+    put_count(html, told.breaks);
     html.put_mark("</h1>\n<p class=\"lead\">");
     put_lead(html, told);
     html.put_mark("</p>\n");
+    put_not_obeyed(html, told);
     put_signs(html, told.signs);
     put_facts(html, told);
     put_judged_with(html, page, profile, options);
@@ -93,10 +106,18 @@ fn put_lead(html: &mut Markup, told: &Told<'_>) {
         html.put_mark("The capture has no records.");
         return;
     }
-    let Some(first) = told.breaks.first() else {
-        put_clean(html, told);
-        return;
-    };
+    let outside = told.breaks.outside();
+    let is_clean = outside.count() == 0;
+    match told.breaks.first() {
+        Some(first) => put_first(html, told, &first),
+        None if is_clean => put_clean(html, told),
+        None => html.put_mark("No record of this stretch breaks a rule."),
+    }
+    outside.put(html);
+}
+
+/// Puts the first break that is shown, or where there are several their reasons and which is the first.
+fn put_first(html: &mut Markup, told: &Told<'_>, first: &FirstBreak<'_>) {
     if told.breaks.count() > 1 {
         put_reasons(html, told.reasons);
         html.put_mark(". The first is ");
@@ -112,6 +133,22 @@ fn put_lead(html: &mut Markup, told: &Told<'_>) {
     html.put_filled("{c}</a> at {h}: ", &[u64::from(first.at), first.time_us]);
     html.put_marks(&[first.reason.name(), " ", first.reason.text(), ". "]);
     html.put_piece(first.sentence);
+}
+
+/// Puts the command that was not obeyed for longest, where one was not.
+fn put_not_obeyed(html: &mut Markup, told: &Told<'_>) {
+    let Some(not_obeyed) = told.not_obeyed else {
+        return;
+    };
+    html.put_mark("<p class=\"lead\"><a href=\"#look\">");
+    let mut text = Text::new(html.alloc());
+    not_obeyed.put(&mut text);
+    html.put_text(&text);
+    let place = not_obeyed.place;
+    html.put_filled(
+        "</a>, from record {c} at {h} on. No rule says how soon a deck obeys.</p>\n",
+        &[u64::from(place.record), place.time_us],
+    );
 }
 
 /// Puts the reasons with their counts.
@@ -144,6 +181,12 @@ fn put_clean(html: &mut Markup, told: &Told<'_>) {
     });
     if told.totals.exchanges == 0 {
         html.put_mark(". No exchange is complete, so of the deck nothing was tested.");
+        return;
+    }
+    if told.strength.exchanges() == 0 {
+        html.put_mark(
+            ", and a deck can have given these replies. No exchange ends in this stretch.",
+        );
         return;
     }
     let known = [Field::Shown, Field::In, Field::Out, Field::Local].map(|field| told
@@ -201,11 +244,14 @@ fn put_facts(html: &mut Markup, told: &Told<'_>) {
         return;
     }
     html.put_mark("<div class=\"facts\">\n");
-    if let Some(shown) = told.shown {
-        html.put_filled(
+    match told.shown {
+        Some(shown) => html.put_filled(
             "<dl><dt>Shown from</dt><dd>{h}</dd></dl>\n<dl><dt>Shown to</dt><dd>{h}</dd></dl>\n",
             &[shown.from_us, shown.to_us],
-        );
+        ),
+        None => html.put_mark(
+            "<dl><dt>Shown</dt><dd>nothing: the stretch misses the capture</dd></dl>\n",
+        ),
     }
     html.put_mark("</div>\n");
 }
@@ -244,8 +290,10 @@ fn put_sheets(html: &mut Markup, sheets: &[String]) {
         html.put_mark(", no deck sheet");
         return;
     };
-    html.put_woven(", deck sheet {t}", &[], &[first.as_bytes()]);
+    html.put_mark(", deck sheet ");
+    put_name(html, first.as_bytes());
     for sheet in others {
-        html.put_woven(" and {t}", &[], &[sheet.as_bytes()]);
+        html.put_mark(" and ");
+        put_name(html, sheet.as_bytes());
     }
 }

@@ -52,25 +52,6 @@ pub(crate) fn put_note(html: &mut Markup, note: &'static str) {
     html.put_marks(&["<p class=\"note\">", note, "</p>\n"]);
 }
 
-/// Puts how many of something are not listed, and which command has them all; nothing where all are.
-pub(crate) fn put_rest(
-    html: &mut Markup,
-    number: u64,
-    (noun, plural): (&'static str, &'static str),
-    command: &'static str,
-) {
-    if number == 0 {
-        return;
-    }
-    html.put_mark("<p class=\"note\">");
-    put_counted(html, number, noun, plural);
-    html.put_marks(&[
-        " not listed: <code>ninecheck ",
-        command,
-        "</code> has all.</p>\n",
-    ]);
-}
-
 /// What leads to a break that is listed: its place on the page.
 #[derive(Clone, Copy, PartialEq, Eq)]
 pub(crate) struct BreakId {

@@ -1,6 +1,8 @@
 //! How much was known: what is not known of the deck can't contradict a later reply.
 
-use crate::html::{begin_chart, put_note, put_rest};
+use crate::again::Again;
+use crate::html::{begin_chart, put_note};
+use crate::shown::Shown;
 use crate::table::put_table_head;
 use text9::{Done, Markup, Text};
 use view9::{Field, Strength};
@@ -8,11 +10,16 @@ use view9::{Field, Strength};
 /// How many commands are listed after which a field was known no more. The others are counted.
 const MOST_LISTED: usize = 40;
 
-/// Puts the section, of all exchanges of the session.
-pub(crate) fn put_known(html: &mut Markup, strength: &Strength<'_>) -> Done {
+/// Puts the section, of the exchanges that are shown.
+pub(crate) fn put_known(
+    html: &mut Markup,
+    strength: &Strength<'_>,
+    extent: Shown,
+    again: &Again<'_>,
+) -> Done {
     html.put_mark("<section id=\"known\"><h2>How much was known</h2>\n");
     if strength.exchanges() == 0 {
-        html.put_mark("<p>No exchange is complete.</p></section>\n");
+        html.put_marks(&["<p>No ", extent.exchange_missing(), ".</p></section>\n"]);
         return Ok(());
     }
     put_note(
@@ -32,7 +39,7 @@ pub(crate) fn put_known(html: &mut Markup, strength: &Strength<'_>) -> Done {
     put_row(html, strength, Field::AudioOut, "audio OUT");
     html.put_mark("</tbody></table></div>\n");
     put_ignored(html, strength)?;
-    put_lapses(html, strength);
+    put_lapses(html, strength, again);
     html.put_mark("</section>\n");
     Ok(())
 }
@@ -99,7 +106,7 @@ fn put_ignored(html: &mut Markup, strength: &Strength<'_>) -> Done {
 }
 
 /// Puts after which commands fields were known no more, where there are some.
-fn put_lapses(html: &mut Markup, strength: &Strength<'_>) {
+fn put_lapses(html: &mut Markup, strength: &Strength<'_>, again: &Again<'_>) {
     let lapses = strength.lapses();
     if lapses.is_empty() {
         return;
@@ -114,10 +121,10 @@ fn put_lapses(html: &mut Markup, strength: &Strength<'_>) {
     }
     html.put_mark("</ul>\n");
     let others = lapses.len().saturating_sub(MOST_LISTED) as u64;
-    put_rest(
+    again.put_rest(
         html,
         others,
         ("more command is", "more commands are"),
-        "digest",
+        "digest --all",
     );
 }

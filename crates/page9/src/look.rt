@@ -1,14 +1,16 @@
 //! What to look at: what the deck did after each transport command that it acknowledged.
 
-use crate::html::{begin_line, end_line, put_counted, put_note, put_rest};
+use crate::again::Again;
+use crate::html::{begin_line, end_line, put_counted, put_note};
+use crate::shown::Shown;
 use crate::table::put_table_head;
 use deck9::Profile;
 use seen9::SeenExchange;
 use std::alloc::{AllocError, Global};
-use text9::{Done, Markup};
-use view9::{Called, Motion, MotionLine, Outcome};
+use text9::{Done, Markup, Text};
+use view9::{Called, Longest, Motion, MotionLine, NotObeyed, Outcome, Place, WorthLine};
 
-/// How many lines are listed of commands, and how many that are worth looking at. The others are counted.
+/// How many lines are listed of commands. The others are counted.
 const MOST_LISTED: usize = 300;
 
 /// How many of those that are worth looking at are in sight.
@@ -19,10 +21,10 @@ const IN_SIGHT: usize = 5;
 pub(crate) struct Look<'a> {
     motion: Motion<'a>,
     commands: Listed,
-    worth: Listed,
+    worth: Longest,
 }
 
-/// The first lines of a list, and how many lines there are.
+/// The first lines of commands, and how many there are.
 #[derive(Drop)]
 struct Listed {
     lines: Vec<Markup>,
@@ -35,7 +37,7 @@ impl<'a> Look<'a> {
         Look {
             motion: Motion::new(alloc, profile),
             commands: Listed::new(alloc),
-            worth: Listed::new(alloc),
+            worth: Longest::new(alloc),
         }
     }
 
@@ -54,9 +56,8 @@ impl<'a> Look<'a> {
     /// Takes the lines of what ended.
     fn take_lines(&mut self) -> Result<(), AllocError> {
         for line in self.motion.lines() {
-            if line.is_worth {
-                self.worth.take(line)?;
-            } else {
+            self.worth.take(line)?;
+            if line.worth_us.is_none() {
                 self.commands.take(line)?;
             }
         }
@@ -64,17 +65,21 @@ impl<'a> Look<'a> {
     }
 
     /// Puts the section, after the end of the last part.
-    pub(crate) fn put(&self, html: &mut Markup) {
+    pub(crate) fn put(&self, html: &mut Markup, extent: Shown, again: &Again<'_>) -> Done {
         html.put_mark("<section id=\"look\"><h2>What to look at</h2>\n");
-        if self.commands.count == 0 && self.worth.count == 0 {
-            html.put_mark("<p>No transport command was acknowledged.</p></section>\n");
-            return;
+        if self.commands.count == 0 && self.worth.count() == 0 {
+            html.put_marks(&[
+                "<p>No transport command was acknowledged",
+                extent.in_what(),
+                ".</p></section>\n",
+            ]);
+            return Ok(());
         }
         put_note(
             html,
             "What the deck did after each transport command that it acknowledged. Nothing here breaks a rule: a deck may take any time.",
         );
-        self.put_worth(html);
+        self.put_worth(html)?;
         self.put_responses(html);
         if self.commands.count > 0 {
             html.put_mark("<details><summary>");
@@ -85,27 +90,41 @@ impl<'a> Look<'a> {
                 "transport commands, one by one",
             );
             html.put_mark("</summary>\n");
-            self.commands.put(html, 0, MOST_LISTED);
+            self.commands.put(html, again);
             html.put_mark("</details>\n");
         }
         html.put_mark("</section>\n");
+        Ok(())
     }
 
-    /// Puts what is worth looking at: the first lines in sight, and the others behind them.
-    fn put_worth(&self, html: &mut Markup) {
-        if self.worth.count == 0 {
+    /// The command that was not obeyed for longest.
+    pub(crate) fn not_obeyed(&self) -> Option<NotObeyed<'a>> {
+        self.motion.not_obeyed()
+    }
+
+    /// Puts what is worth looking at, the longest first: some lines in sight, and the others behind them.
+    fn put_worth(&self, html: &mut Markup) -> Done {
+        let (count, lines) = (self.worth.count(), self.worth.lines());
+        if count == 0 {
             html.put_mark("<p>Nothing stands out.</p>\n");
-            return;
+            return Ok(());
         }
-        html.put_filled("<p>Worth looking at: {c}.</p>\n", &[self.worth.count]);
-        let others = self.worth.count.saturating_sub(IN_SIGHT as u64);
-        self.worth.put(html, 0, IN_SIGHT);
+        html.put_filled("<p>Worth looking at: {c}.</p>\n", &[count]);
+        let (in_sight, behind) = lines.split_at(IN_SIGHT.min(lines.len()));
+        put_worth_lines(html, in_sight)?;
+        let others = count.saturating_sub(IN_SIGHT as u64);
         if others == 0 {
-            return;
+            return Ok(());
         }
         html.put_filled("<details><summary>{c} more</summary>\n", &[others]);
-        self.worth.put(html, IN_SIGHT, MOST_LISTED);
+        put_worth_lines(html, behind)?;
+        if self.worth.others() > 0 {
+            html.put_mark("<p class=\"note\">");
+            put_counted(html, self.worth.others(), "more is", "more are");
+            html.put_mark(" not listed: none went on for longer.</p>\n");
+        }
         html.put_mark("</details>\n");
+        Ok(())
     }
 
     /// Puts the table of the responses, where a command with a mode of its own was acknowledged.
@@ -142,27 +161,39 @@ impl Listed {
             return Ok(());
         }
         let mut html = Markup::new(*self.lines.allocator());
-        begin_line(&mut html, "", line.place.time_us, line.place.record);
-        html.put_foreign(line.text.whole()?);
-        end_line(&mut html);
+        put_line(&mut html, line.place, &line.text)?;
         self.lines.push(html)?;
         Ok(())
     }
 
-    /// Puts the lines from one place on to another, counted from 0, and after the last that is kept how many are left out.
-    fn put(&self, html: &mut Markup, from: usize, to: usize) {
+    /// Puts them, and how many are left out.
+    fn put(&self, html: &mut Markup, again: &Again<'_>) {
         html.put_mark("<ol class=\"lines\">\n");
-        let to = to.min(self.lines.len());
-        for line in self.lines.as_slice().get(from..to).unwrap_or(&[]) {
+        for line in self.lines.as_slice() {
             html.put_piece(line);
         }
         html.put_mark("</ol>\n");
-        if to < MOST_LISTED {
-            return;
-        }
-        let others = self.count.saturating_sub(MOST_LISTED as u64);
-        put_rest(html, others, ("more is", "more are"), "motion");
+        let others = self.count.saturating_sub(self.lines.len() as u64);
+        again.put_rest(html, others, ("more is", "more are"), "motion --all");
     }
+}
+
+/// Puts lines that are worth looking at.
+fn put_worth_lines(html: &mut Markup, lines: &[WorthLine]) -> Done {
+    html.put_mark("<ol class=\"lines\">\n");
+    for line in lines {
+        put_line(html, line.place, &line.text)?;
+    }
+    html.put_mark("</ol>\n");
+    Ok(())
+}
+
+/// Puts a line of the motion.
+fn put_line(html: &mut Markup, place: Place, text: &Text) -> Done {
+    begin_line(html, "", place.time_us, place.record);
+    html.put_foreign(text.whole()?);
+    end_line(html);
+    Ok(())
 }
 
 /// Puts the row of a command.

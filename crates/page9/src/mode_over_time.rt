@@ -77,7 +77,8 @@ struct HeldMode {
 pub(crate) struct ModeOverTime {
     alloc: Global,
     window: Window,
-    /// For how long a mode is held at most, in microseconds.
+    /// For how long a mode is held at least and at most, in microseconds.
+    least_us: u64,
     most_us: u64,
     held: Option<HeldMode>,
     /// How long a cell is, in microseconds: a power of two.
@@ -86,11 +87,17 @@ pub(crate) struct ModeOverTime {
 }
 
 impl ModeOverTime {
-    /// Of nothing yet. A mode is held for so many microseconds at most.
-    pub(crate) fn new(alloc: Global, window: Window, most_us: u64) -> ModeOverTime {
+    /// Of nothing yet. A mode is held for so many microseconds at least and at most: one of which only the last reply tells is drawn where
+    /// the least is not 0.
+    pub(crate) fn new(
+        alloc: Global,
+        window: Window,
+        (least_us, most_us): (u64, u64),
+    ) -> ModeOverTime {
         ModeOverTime {
             alloc,
             window,
+            least_us,
             most_us,
             held: None,
             width_us: 1,
@@ -110,6 +117,11 @@ impl ModeOverTime {
             has = has || cell.held_us(mode) > 0;
         }
         has
+    }
+
+    /// Whether some mode was.
+    pub(crate) fn has_any(&self) -> bool {
+        ROWS.iter().any(|mode| self.has(*mode))
     }
 
     /// From this time on the mode is this one.
@@ -136,7 +148,8 @@ impl ModeOverTime {
             return;
         };
         let end_us = now_us.min(held.since_us.saturating_add(self.most_us));
-        if let Some((from_us, to_us)) = self.window.clip(held.since_us, end_us) {
+        let since_us = held.since_us.min(end_us.saturating_sub(self.least_us));
+        if let Some((from_us, to_us)) = self.window.clip(since_us, end_us) {
             self.add(held.mode, from_us, to_us);
         }
     }

@@ -7,6 +7,7 @@ use crate::following::Following;
 use crate::footer::put_footer;
 use crate::head::{Told, put_head, put_title};
 use crate::known::put_known;
+use crate::shown::Shown;
 use crate::span::{Span, Window};
 use capture9::{CaptureError, GREATEST_LIMIT, Records};
 use deck9::Profile;
@@ -144,9 +145,13 @@ fn read_again<R: Read + Drop, S: MoveSearch>(
 }
 
 impl Found {
-    /// From when to when the capture is shown in a window, where it has a record.
+    /// From when to when the capture is shown in a window; none where it has no record, or lies before the window or behind it.
     fn span_in(&self, window: Window) -> Option<Span> {
         let (first_us, last_us) = (self.first_us?, self.last_us?);
+        let is_behind = window.to_us.is_some_and(|to_us| to_us <= first_us);
+        if window.from_us > last_us || is_behind {
+            return None;
+        }
         Some(Span {
             from_us: first_us.max(window.from_us),
             to_us: last_us.min(window.to_us.unwrap_or(last_us)),
@@ -177,6 +182,7 @@ fn put_page<S: MoveSearch>(
     found: &Found,
 ) -> Done {
     let profile = following.profile;
+    let extent = Shown::of(page.stretch);
     let shown = found.span_in(window_of(found.first_us, page.stretch));
     let words = Words::of(html.alloc(), page, profile)?;
     let again = Again {
@@ -194,18 +200,19 @@ fn put_page<S: MoveSearch>(
         signs: &found.signs,
         whole: found.span_in(Window::ALL),
         shown,
+        not_obeyed: following.look.not_obeyed(),
     };
-    put_title(html, page, following.breaks.count());
+    put_title(html, page, &following.breaks);
     put_head(html, page, profile, &told, again.options);
     let touches = &following.touches;
     following
         .session
         .put(html, shown, reasons.as_slice(), touches)?;
     following.breaks.put(html, &again, &doubts)?;
-    following.happened.put(html)?;
+    following.happened.put(html, extent, &again)?;
     following.touches.put(html);
-    following.delays.put(html)?;
-    following.look.put(html);
-    put_known(html, &following.strength)?;
+    following.delays.put(html, extent, &again)?;
+    following.look.put(html, extent, &again)?;
+    put_known(html, &following.strength, extent, &again)?;
     put_footer(html, page, &following.totals, &again)
 }

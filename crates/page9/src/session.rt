@@ -9,9 +9,10 @@ use crate::breaks_over_time::BreaksOverTime;
 use crate::charts::{put_delay_lane, put_traffic};
 use crate::field_lane::{is_audio, lane_name, put_lane};
 use crate::field_over_time::FieldOverTime;
-use crate::html::{begin_chart, begin_path, end_path, put_note};
+use crate::html::{begin_chart, begin_path, end_path};
 use crate::mode_lane::put_modes;
 use crate::mode_over_time::ModeOverTime;
+use crate::shown::Shown;
 use crate::span::{Span, Window};
 use crate::touches::Touches;
 use deck9::{Hands, Known, Mode, Profile};
@@ -28,6 +29,7 @@ const MODE_HELD_US: u64 = 1_000_000;
 #[derive(Drop)]
 pub(crate) struct Session {
     window: Window,
+    extent: Shown,
     hands: Hands,
     rate: Rate,
     bins: Bins,
@@ -36,23 +38,21 @@ pub(crate) struct Session {
     commanded: ModeOverTime,
     /// The lanes of the other fields, from the top.
     lanes: Growing<FieldOverTime>,
-    /// Whether the shown mode was ever known.
-    is_mode_known: bool,
 }
 
 impl Session {
-    /// Of nothing yet.
-    pub(crate) fn new(alloc: Global, window: Window, profile: &Profile) -> Session {
+    /// Of nothing yet, of which so much is shown, in this window.
+    pub(crate) fn new(alloc: Global, window: Window, extent: Shown, profile: &Profile) -> Session {
         Session {
             window,
+            extent,
             hands: profile.hands,
             rate: profile.rate,
             bins: Bins::new(alloc, window),
             marks: BreaksOverTime::new(alloc, window),
-            shown: ModeOverTime::new(alloc, window, MODE_HELD_US),
-            commanded: ModeOverTime::new(alloc, window, u64::MAX),
+            shown: ModeOverTime::new(alloc, window, (1, MODE_HELD_US)),
+            commanded: ModeOverTime::new(alloc, window, (0, u64::MAX)),
             lanes: lanes_of(alloc, window, profile.hands),
-            is_mode_known: false,
         }
     }
 
@@ -63,7 +63,6 @@ impl Session {
         }
         let now_us = seen.end_us;
         if let Known::Is(mode) = seen.after.shown {
-            self.is_mode_known = true;
             self.shown.hold(mode, now_us);
         }
         self.commanded.follow(known_mode(&seen.after.goal), now_us);
@@ -97,8 +96,8 @@ impl Session {
             || self.lanes.is_short()
     }
 
-    /// Puts the section, with a row for each of these reasons of breaks, and one for touches of the panel. There is no time where the
-    /// capture has no record. An error comes where memory was refused for something of it.
+    /// Puts the section, with a row for each of these reasons of breaks, and one for touches of the panel. There is no time where no
+    /// record is shown. An error comes where memory was refused for something of it.
     pub(crate) fn put<S: MoveSearch>(
         &self,
         html: &mut Markup,
@@ -112,7 +111,10 @@ impl Session {
         html.put_mark("<section id=\"session\"><h2>The whole session</h2>\n");
         match span {
             Some(span) => self.put_figure(html, span, reasons, touches)?,
-            None => html.put_mark("<p>The capture has no records.</p>"),
+            None => html.put_mark(match self.extent {
+                Shown::Whole => "<p>The capture has no records.</p>",
+                Shown::Stretch => "<p>No record is in this stretch.</p>",
+            }),
         }
         html.put_mark("</section>\n");
         Ok(())
@@ -139,7 +141,11 @@ impl Session {
         put_marks(html, span, &self.marks, reasons);
         html.put_mark("</div><div class=\"lanes\">\n");
         if self.bins.exchanges() == 0 {
-            put_note(html, "Traffic, Reply delay: no exchange is complete");
+            html.put_marks(&[
+                "<p class=\"note\">Traffic, Reply delay: no ",
+                self.extent.exchange_missing(),
+                "</p>\n",
+            ]);
         } else {
             self.put_lanes(html, span)?;
             touches.put_lane(html, span);
@@ -192,7 +198,7 @@ impl Session {
     /// Puts what was never known.
     fn put_never_known(&self, html: &mut Markup) {
         let mut is_begun = false;
-        if !self.is_mode_known {
+        if !self.shown.has_any() {
             html.put_mark("<p>Never known: Shown mode");
             is_begun = true;
         }
@@ -283,7 +289,11 @@ fn put_down(html: &mut Markup, span: Span, since_us: u64) {
 /// Puts the axis of time.
 fn put_axis(html: &mut Markup, span: Span, axis: Axis) {
     begin_lane(html, " thin");
-    html.put_mark("</div>\n<div class=\"chart axis\">\n");
+    html.put_mark(if axis.is_long() {
+        "</div>\n<div class=\"chart axis long\">\n"
+    } else {
+        "</div>\n<div class=\"chart axis\">\n"
+    });
     for tick in 0..axis.ticks() {
         let us = axis.tick_us(tick);
         let place = span.place(us.saturating_sub(span.from_us));

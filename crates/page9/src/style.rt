@@ -206,6 +206,12 @@ const NARROW_BREAKS: &str = "\
     }\n\
 ";
 
+/// Labels of the axis of time that have no room in a page that is not wide.
+const FEWER_TICKS: &str = "\
+    @media (max-width:1260px){.axis.long span:nth-child(even){display:none}}\n\
+    @media (max-width:900px){.axis span:nth-child(even),.axis.long span:nth-child(4n+3){display:none}}\n\
+";
+
 /// A narrow page.
 const NARROW: &str = "\
     @media (max-width:720px){\n\
@@ -217,7 +223,6 @@ const NARROW: &str = "\
     .label{grid-column:1/-1}\n\
     .thin .label{display:none}\n\
     .narrow{display:inline}\n\
-    .axis span:nth-child(even){display:none}\n\
     .below{margin:0}\n\
     .lines li{grid-template-columns:auto 1fr;padding:3px 0}\n\
     .lines li span:last-child{grid-column:1/-1}\n\
@@ -249,6 +254,7 @@ pub(crate) fn put_style(html: &mut Markup) {
     html.put_mark(BREAKS);
     html.put_mark(PICTURES);
     html.put_mark(NARROW_BREAKS);
+    html.put_mark(FEWER_TICKS);
     html.put_mark(NARROW);
     html.put_mark(PRINT);
     html.put_mark("</style>\n");

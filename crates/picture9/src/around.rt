@@ -14,6 +14,7 @@ use crate::text_rows::{APART, TextRows, WIRES_LEFT};
 use crate::ties::draw_ties;
 use block9::BYTE_TIME_US;
 use capture9::Wire;
+use deck9::Profile;
 use report9::put_text;
 use std::alloc::AllocError;
 use text9::{Done, Markup, milliseconds, put_px};
@@ -34,8 +35,8 @@ pub(crate) fn top_of(wire: Wire) -> u64
     }
 }
 
-/// Draws the records that were chosen, on their wires, and the axis with their times.
-pub(crate) fn draw_around(svg: &mut Markup, layout: &Layout) -> Done {
+/// Draws the records that were chosen, on their wires, and the axis with their times. Commands have the names of the profile.
+pub(crate) fn draw_around(svg: &mut Markup, profile: &Profile, layout: &Layout) -> Done {
     draw_wire(svg, layout, Wire::Controller, "C", "controller");
     draw_wire(svg, layout, Wire::Deck, "D", "deck");
     draw_across(svg, layout, AXIS, Look::Line);
@@ -43,7 +44,7 @@ pub(crate) fn draw_around(svg: &mut Markup, layout: &Layout) -> Done {
     draw_measure(svg, layout);
     draw_bytes(svg, layout);
     let has_ties = draw_ties(svg, layout);
-    draw_blocks(svg, layout)?;
+    draw_blocks(svg, profile, layout)?;
     draw_times(svg, layout)?;
     draw_notes(svg, has_cuts, has_ties);
     Ok(())
@@ -170,7 +171,7 @@ fn draw_spot(svg: &mut Markup, spot: &Spot, standing: Standing) {
 }
 
 /// Draws the brackets and names of the blocks, above the controller's boxes and below the deck's.
-fn draw_blocks(svg: &mut Markup, layout: &Layout) -> Done {
+fn draw_blocks(svg: &mut Markup, profile: &Profile, layout: &Layout) -> Done {
     let mut above = TextRows::new(layout.wide, 3);
     let mut below = TextRows::new(layout.wide, 3);
     for spot in layout.drawn.as_slice() {
@@ -178,15 +179,21 @@ fn draw_blocks(svg: &mut Markup, layout: &Layout) -> Done {
             continue;
         }
         match spot.seen.record.wire {
-            Wire::Controller => draw_block(svg, layout, &mut above, spot)?,
-            Wire::Deck => draw_block(svg, layout, &mut below, spot)?,
+            Wire::Controller => draw_block(svg, profile, layout, &mut above, spot)?,
+            Wire::Deck => draw_block(svg, profile, layout, &mut below, spot)?,
         }
     }
     Ok(())
 }
 
 /// Draws the bracket and the name of the block that begins with this record.
-fn draw_block(svg: &mut Markup, layout: &Layout, rows: &mut TextRows, begin: &Spot) -> Done {
+fn draw_block(
+    svg: &mut Markup,
+    profile: &Profile,
+    layout: &Layout,
+    rows: &mut TextRows,
+    begin: &Spot,
+) -> Done {
     let mut end = begin.end();
     for spot in layout.drawn.as_slice() {
         if spot.seen.block == begin.seen.number {
@@ -194,7 +201,7 @@ fn draw_block(svg: &mut Markup, layout: &Layout, rows: &mut TextRows, begin: &Sp
         }
     }
     let mut name = Vec::new(svg.alloc());
-    put_name(&mut name, layout, begin)?;
+    put_name(&mut name, profile, layout, begin)?;
     let place = rows.place(begin.x.saturating_add(end) / 2, name.len());
     let down = place.row.saturating_mul(14);
     let (y, ends, name_y) = match begin.seen.record.wire {
@@ -212,21 +219,21 @@ fn draw_block(svg: &mut Markup, layout: &Layout, rows: &mut TextRows, begin: &Sp
 }
 
 /// Puts the name of the block that begins with this record, in brackets where it was not judged.
-fn put_name(name: &mut Vec<u8>, layout: &Layout, begin: &Spot) -> Done {
+fn put_name(name: &mut Vec<u8>, profile: &Profile, layout: &Layout, begin: &Spot) -> Done {
     if !layout.is_pale(begin) {
-        return put_own_name(name, layout, begin);
+        return put_own_name(name, profile, layout, begin);
     }
     put_text(name, "(")?;
-    put_own_name(name, layout, begin)?;
+    put_own_name(name, profile, layout, begin)?;
     put_text(name, ")")
 }
 
 /// Puts the name of the block that begins with this record: a command's or a reply's, or its first two bytes where it has none.
-fn put_own_name(name: &mut Vec<u8>, layout: &Layout, begin: &Spot) -> Done {
+fn put_own_name(name: &mut Vec<u8>, profile: &Profile, layout: &Layout, begin: &Spot) -> Done {
     for spot in layout.drawn.as_slice() {
         if spot.seen.block == begin.seen.number && spot.seen.is_second {
             let (first, second) = (begin.seen.record, spot.seen.record);
-            return put_block_name(name, first.wire, first.byte, second.byte);
+            return put_block_name(name, profile, first.wire, first.byte, second.byte);
         }
     }
     put_text(name, "begun")

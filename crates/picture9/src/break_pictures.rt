@@ -8,12 +8,16 @@ use crate::measure::PIXEL;
 use crate::reading::{Asked, RECORDS_AFTER, RECORDS_BEFORE, Reading};
 use block9::Reason;
 use capture9::LineByte;
+use deck9::Profile;
 use report9::{Beginning, put_no_line};
 use std::alloc::{AllocError, Global};
 use text9::{Done, Markup};
 
-/// How many breaks are drawn: the first.
-pub const MOST_PICTURES: usize = 100;
+/// How many breaks are drawn at most: the first.
+const MOST_PICTURES: usize = 100;
+
+/// How many bytes their pictures may take: one is drawn while those before it take fewer.
+const MOST_BYTES: usize = 1_000_000;
 
 /// How wide a picture may be, in pixels.
 const WIDEST: u32 = 1_200;
@@ -41,8 +45,10 @@ struct Window {
 /// It is told of each break and each late reply in the order in which they come ([`BreakPictures::ask`] and [`BreakPictures::pass`]).
 /// Then it takes each record of the capture once more, from the first one on ([`BreakPictures::take`]), and the end.
 #[derive(Drop)]
-pub struct BreakPictures {
+pub struct BreakPictures<'a> {
     alloc: Global,
+    /// What the deck is taken for.
+    profile: &'a Profile,
     beginning: Beginning,
     /// The break that ended the part before.
     before: Option<PartEnd>,
@@ -52,8 +58,10 @@ pub struct BreakPictures {
     breaks: Vec<Break>,
     /// A window for each of them whose records are being read or were read. One that was drawn is empty.
     windows: Vec<Window>,
-    /// What was drawn: nothing of a break whose record never came.
+    /// What was drawn: nothing of a break whose record never came, or whose picture would be one too many.
     drawn: Vec<Option<Markup>>,
+    /// How many bytes that takes.
+    bytes: usize,
     /// The record at which the next window begins.
     begins_at: u32,
     /// The last record of the first window that is open.
@@ -82,17 +90,19 @@ impl Break {
     }
 }
 
-impl BreakPictures {
-    /// Before the first break of a capture whose first part begins so.
-    pub fn new(alloc: Global, beginning: Beginning) -> BreakPictures {
+impl<'a> BreakPictures<'a> {
+    /// Before the first break of a capture whose first part begins so, of a deck that is taken for this.
+    pub fn new(alloc: Global, profile: &'a Profile, beginning: Beginning) -> BreakPictures<'a> {
         BreakPictures {
             alloc,
+            profile,
             beginning,
             before: None,
             is_late: false,
             breaks: Vec::new(alloc),
             windows: Vec::new(alloc),
             drawn: Vec::new(alloc),
+            bytes: 0,
             begins_at: u32::MAX,
             ends_at: u32::MAX,
         }
@@ -159,6 +169,11 @@ impl BreakPictures {
         self.draw_to(u32::MAX)
     }
 
+    /// How many pictures were drawn.
+    pub fn count(&self) -> usize {
+        self.drawn.iter().filter(|drawn| drawn.is_some()).count()
+    }
+
     /// The picture at this place among those that are drawn.
     pub fn svg(&self, place: usize) -> Option<&Markup> {
         self.drawn.get(place)?.as_ref()
@@ -208,7 +223,13 @@ impl BreakPictures {
             if next.to() > number {
                 break;
             }
-            self.drawn.push(draw_window(self.alloc, next, window)?)?;
+            let drawn = draw_window(self.alloc, self.profile, next, window)?;
+            let has_room = self.bytes < MOST_BYTES;
+            let drawn = drawn.filter(|_| has_room);
+            self.bytes = self
+                .bytes
+                .saturating_add(drawn.as_ref().map_or(0, |svg| svg.len()));
+            self.drawn.push(drawn)?;
         }
         self.find_end();
         Ok(())
@@ -229,6 +250,7 @@ impl Asked {
 /// Draws a window, and empties it; nothing where the record that breaks never came.
 fn draw_window(
     alloc: Global,
+    profile: &Profile,
     about: &Break,
     window: &mut Window,
 ) -> Result<Option<Markup>, AllocError> {
@@ -243,7 +265,7 @@ fn draw_window(
     };
     let mut svg = Markup::on_page(alloc);
     put_page_head(&mut svg, layout.wide, about)?;
-    draw_around(&mut svg, &layout)?;
+    draw_around(&mut svg, profile, &layout)?;
     svg.put_mark("</svg>");
     Ok(Some(svg))
 }

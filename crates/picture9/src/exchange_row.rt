@@ -69,7 +69,7 @@ pub(crate) fn rows_of<R: Read + Drop>(
     for (place, exchange) in exchanges.iter().enumerate() {
         let first = last.saturating_add(1);
         last = last.saturating_add(exchange.records() as u32);
-        if places.contains(&place) {
+        if places.get(rows.len()).copied() == Some(place) {
             let row = ExchangeRow {
                 first,
                 last,

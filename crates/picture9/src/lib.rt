@@ -24,7 +24,7 @@ mod spot;
 mod text_rows;
 mod ties;
 
-pub use break_pictures::{BreakPictures, MOST_PICTURES};
+pub use break_pictures::BreakPictures;
 pub use choice::Choice;
 pub use contradiction::put_known_before;
 pub use exchange_row::{answered_of, asked_of, says_of};

@@ -76,7 +76,7 @@ fn draw<R: Read + Drop>(
         before: choice.before,
         beginning: wanted.scope.beginning,
     };
-    draw_break(alloc, reader, &asked, why, wanted.width)
+    draw_break(alloc, reader, &asked, why, wanted)
 }
 
 /// Draws the records around one that breaks a rule; nothing of a contradiction.
@@ -85,7 +85,7 @@ fn draw_break<R: Read + Drop>(
     reader: R,
     asked: &Asked,
     why: &WhyNo,
-    width: u32,
+    wanted: &Wanted<'_>,
 ) -> Result<Option<Markup>, JudgeError> {
     let WhyNo::Break {
         reason,
@@ -98,7 +98,7 @@ fn draw_break<R: Read + Drop>(
     };
     let seen = read_around(alloc, reader, asked)?;
     let limit_us = reason.limit_us();
-    let Some(layout) = lay_out(alloc, seen.as_slice(), asked, limit_us, width)? else {
+    let Some(layout) = lay_out(alloc, seen.as_slice(), asked, limit_us, wanted.width)? else {
         return Ok(None);
     };
     let mut below = Vec::new(alloc);
@@ -106,7 +106,7 @@ fn draw_break<R: Read + Drop>(
     let mut svg = Markup::new(alloc);
     let verdict = (asked.at, *reason);
     put_head(&mut svg, (layout.wide, TALL), verdict, below.as_slice())?;
-    draw_around(&mut svg, &layout)?;
+    draw_around(&mut svg, wanted.profile, &layout)?;
     svg.put_mark("</svg>\n");
     Ok(Some(svg))
 }

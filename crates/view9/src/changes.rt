@@ -133,17 +133,37 @@ impl Changes {
         self.is_news
     }
 
-    /// Puts all that it changed, with times at this rate.
+    /// Puts all that it changed, with times at this rate: what is known otherwise first, and the fields that are known again as before a
+    /// break by their names last.
     pub fn put(&self, line: &mut Text, rate: Rate) {
         for change in self.as_slice() {
-            line.put(", ");
-            change.put(line, rate);
+            if !change.is_restored() {
+                line.put(", ");
+                change.put(line, rate);
+            }
         }
         self.by_itself.put_changes(line);
+        self.put_restored(line);
+    }
+
+    /// Puts the names of the fields that are known again as before a break, where there are some.
+    fn put_restored(&self, line: &mut Text) {
+        let mut before = ", known again as before: ";
+        for change in self.as_slice() {
+            if change.is_restored() {
+                line.put(before).put(change.field.name());
+                before = ", ";
+            }
+        }
     }
 }
 
 impl Change {
+    /// Whether a break made the field unknown, and it is known again as it was.
+    fn is_restored(&self) -> bool {
+        self.is_forgotten && self.to.is_known() && self.to == self.from
+    }
+
     /// Puts it, with times at this rate.
     pub(crate) fn put(&self, line: &mut Text, rate: Rate) {
         line.put(self.field.name()).put(": ");

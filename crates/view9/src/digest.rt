@@ -3,6 +3,7 @@
 
 use crate::break_run::BreakRun;
 use crate::changes::Changes;
+use crate::motion::Motion;
 use crate::put_ending::put_ending;
 use crate::strength::Strength;
 use crate::tally::Tally;
@@ -10,7 +11,7 @@ use crate::track::Place;
 use deck9::Profile;
 use report9::{JudgeError, put_command, put_no_line, put_reply, write_all};
 use seen9::{Ending, SeenBreak, SeenExchange, View};
-use std::alloc::Global;
+use std::alloc::{AllocError, Global};
 use std::io::Write;
 use text9::Text;
 
@@ -27,6 +28,7 @@ pub struct Digest<'a, W: Write> {
     breaks: Option<BreakRun>,
     changes: Changes,
     strength: Strength<'a>,
+    motion: Motion<'a>,
     late_replies: u32,
 }
 
@@ -41,6 +43,7 @@ impl<'a, W: Write> Digest<'a, W> {
             breaks: None,
             changes: Changes::new(alloc, profile.hands),
             strength: Strength::new(alloc, profile),
+            motion: Motion::new(alloc, profile),
             late_replies: 0,
         }
     }
@@ -64,6 +67,17 @@ impl<'a, W: Write> Digest<'a, W> {
         line.put("\n");
     }
 
+    /// Puts the line of the command that was not obeyed for longest, where one was not.
+    fn put_not_obeyed(&mut self) -> Result<(), AllocError> {
+        self.motion.end_part()?;
+        if let Some(not_obeyed) = self.motion.not_obeyed() {
+            not_obeyed.place.put(&mut self.line);
+            not_obeyed.put(&mut self.line);
+            self.line.put("\n");
+        }
+        Ok(())
+    }
+
     /// Writes the lines that were put.
     fn write(&mut self) -> Result<(), JudgeError> {
         Ok(write_all(self.writer, self.line.whole()?)?)
@@ -73,6 +87,7 @@ impl<'a, W: Write> Digest<'a, W> {
 impl<W: Write> View for Digest<'_, W> {
     fn exchange(&mut self, seen: &SeenExchange<'_>) -> Result<(), JudgeError> {
         self.changes.take(seen)?;
+        self.motion.exchange(seen)?;
         if !seen.is_shown {
             return Ok(());
         }
@@ -103,6 +118,7 @@ impl<W: Write> View for Digest<'_, W> {
 
     fn broken(&mut self, broken: &SeenBreak) -> Result<(), JudgeError> {
         self.changes.forget();
+        self.motion.end_part()?;
         if !broken.is_shown {
             return Ok(());
         }
@@ -127,6 +143,7 @@ impl<W: Write> View for Digest<'_, W> {
                 .put_count("late replies: ", u64::from(self.late_replies))
                 .put("\n");
         }
+        self.put_not_obeyed()?;
         self.strength.put(&mut self.line);
         self.write()
     }

@@ -4,12 +4,14 @@
 //! A late reply ends no part, and so no command's line.
 
 use crate::called::Called;
+use crate::not_obeyed::NotObeyed;
 use crate::track::{Answer, Place, take_answer};
 use crate::transport::{Followed, Transport, Way};
-use crate::worth::Showing;
+use crate::worth::{LEAST_WORTH_US, Showing};
 use block9::Command;
-use deck9::{Known, ModeSet, Profile, Status};
+use deck9::{Known, ModeSet, Profile};
 use indexmap::IndexMap;
+use report9::status_in;
 use seen9::SeenExchange;
 use std::alloc::{AllocError, Global};
 use text9::Text;
@@ -19,8 +21,9 @@ use text9::Text;
 pub struct MotionLine {
     /// What it names, by the exchange's last record: the acknowledgement of a command, or else what is worth looking at.
     pub place: Place,
-    /// Whether it is worth looking at. Else it tells what came of a command.
-    pub is_worth: bool,
+    /// Where it is worth looking at, for how long it went on, in microseconds; of a time that jumps how much more or less it moved by
+    /// than the clock. None where it tells what came of a command.
+    pub worth_us: Option<u64>,
     /// What it says, after the record and its time.
     pub text: Text,
 }
@@ -55,6 +58,8 @@ pub struct Motion<'a> {
     /// The last statuses, as far as they show the same.
     showing: Option<Showing>,
     outcomes: IndexMap<Called<'a>, Outcome>,
+    /// The command that was not obeyed for longest.
+    not_obeyed: Option<NotObeyed<'a>>,
 }
 
 impl<'a> Motion<'a> {
@@ -67,6 +72,7 @@ impl<'a> Motion<'a> {
             shown: Vec::new(alloc),
             showing: None,
             outcomes: IndexMap::new(alloc),
+            not_obeyed: None,
         }
     }
 
@@ -77,7 +83,7 @@ impl<'a> Motion<'a> {
             return Ok(());
         }
         match seen.exchange.command {
-            Command::StatusSense { asked } => return self.take_status(asked, seen),
+            Command::StatusSense { .. } => return self.take_status(seen),
             Command::CurrentTimeSense { .. } => {
                 if let Some(answer) = Answer::of(self.profile.rate, seen) {
                     self.take_time(&answer);
@@ -111,6 +117,12 @@ impl<'a> Motion<'a> {
         &self.outcomes
     }
 
+    /// The command that was not obeyed for longest, of those that were not for half a second or more; the first of several. One that a deck
+    /// in LOCAL may have ignored is none, and neither is one to cue, where the tape moved since.
+    pub fn not_obeyed(&self) -> Option<NotObeyed<'a>> {
+        self.not_obeyed
+    }
+
     /// Follows a command from here on. What is shown goes on where the command asks for that, and for the same way as the one before:
     /// some controllers send a command again and again.
     fn begin_command(
@@ -135,9 +147,10 @@ impl<'a> Motion<'a> {
         Ok(())
     }
 
-    /// Takes a status. It shows the mode that is known after it, and where none is those that its data allow.
-    fn take_status(&mut self, asked: u8, seen: &SeenExchange<'_>) -> Result<(), AllocError> {
-        let Some(allowed) = Status::of(asked, &seen.exchange.reply).shown else {
+    /// Takes a status. It shows the mode that is known after it, and where none is those that its data allow. A reply that only a sheet
+    /// lets the command take shows nothing.
+    fn take_status(&mut self, seen: &SeenExchange<'_>) -> Result<(), AllocError> {
+        let Some(allowed) = status_in(seen.exchange).and_then(|status| status.shown) else {
             return Ok(());
         };
         let mut modes = match seen.after.shown {
@@ -191,11 +204,15 @@ impl<'a> Motion<'a> {
         if !followed.place.is_shown {
             return Ok(());
         }
-        for is_worth in [false, true] {
-            if !is_worth || followed.is_never_shown() {
-                let mut text = Text::new(*self.told.allocator());
-                followed.put(&mut text, self.shown.as_slice());
-                tell(&mut self.told, followed.place, is_worth, text)?;
+        let shown = self.shown.as_slice();
+        tell_command(&mut self.told, followed, shown, None)?;
+        if followed.is_never_shown() {
+            tell_command(&mut self.told, followed, shown, Some(followed.statuses_us))?;
+        }
+        if let Some(not_obeyed) = followed.not_obeyed(shown) {
+            let longest_us = self.not_obeyed.map_or(0, |longest| longest.lasts_us);
+            if not_obeyed.lasts_us >= LEAST_WORTH_US && not_obeyed.lasts_us > longest_us {
+                self.not_obeyed = Some(not_obeyed);
             }
         }
         if followed.transport.mode.is_some() {
@@ -233,17 +250,30 @@ fn count_shown(shown: &mut Vec<(ModeSet, u32)>, modes: ModeSet) -> Result<(), Al
     Ok(())
 }
 
-/// Tells a line, where what it names is shown.
+/// Tells what came of a command, after which these modes were shown; with a time, as a line that is worth looking at.
+fn tell_command(
+    told: &mut Vec<MotionLine>,
+    followed: &Followed<'_>,
+    shown: &[(ModeSet, u32)],
+    worth_us: Option<u64>,
+) -> Result<(), AllocError> {
+    let mut text = Text::new(*told.allocator());
+    followed.put(&mut text, shown);
+    tell(told, followed.place, worth_us, text)
+}
+
+/// Tells a line, where what it names is shown, and did not go on for too short a time to be worth looking at.
 pub(crate) fn tell(
     told: &mut Vec<MotionLine>,
     place: Place,
-    is_worth: bool,
+    worth_us: Option<u64>,
     text: Text,
 ) -> Result<(), AllocError> {
-    if place.is_shown {
+    let is_trifle = worth_us.is_some_and(|us| us < LEAST_WORTH_US);
+    if place.is_shown && !is_trifle {
         told.push(MotionLine {
             place,
-            is_worth,
+            worth_us,
             text,
         })?;
     }

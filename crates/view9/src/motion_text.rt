@@ -1,8 +1,10 @@
 //! The text that tells the motion: a line for each command, a table of the responses, and what is worth looking at.
 
 use crate::called::Called;
-use crate::motion::{Motion, MotionLine, Outcome};
+use crate::longest::Longest;
+use crate::motion::{Motion, Outcome};
 use crate::put_ending::put_ending;
+use crate::track::Place;
 use deck9::Profile;
 use report9::{JudgeError, write_all};
 use seen9::{Ending, SeenBreak, SeenExchange, View};
@@ -14,9 +16,6 @@ use text9::Text;
 const TITLE: &str =
     "what the deck did after each transport command that it acknowledged; nothing is judged, a deck may take any time\n";
 
-/// How many lines are listed that are worth looking at. The others are counted.
-const MOST_LISTED: u64 = 100;
-
 /// What the deck did in a capture, as far as it is written. A command's line is written as soon as the next one comes. All of the capture
 /// is followed, and what lies in the stretch has lines and counts: a command by its acknowledgement, and what is worth looking at by the
 /// record that it names. The writer is not flushed.
@@ -26,10 +25,8 @@ pub struct MotionText<'a, W: Write> {
     motion: Motion<'a>,
     /// Lines that are to be written.
     lines: Text,
-    /// How many lines are worth looking at.
-    worth: u64,
-    /// The first of these.
-    worth_lines: Text,
+    /// Those that are worth looking at.
+    worth: Longest,
 }
 
 impl<'a, W: Write> MotionText<'a, W> {
@@ -41,25 +38,24 @@ impl<'a, W: Write> MotionText<'a, W> {
             writer,
             motion: Motion::new(alloc, profile),
             lines,
-            worth: 0,
-            worth_lines: Text::new(alloc),
+            worth: Longest::new(alloc),
         }
     }
 
     /// Takes the lines that are told, and writes those of commands.
     fn take_lines(&mut self) -> Result<(), JudgeError> {
         for line in self.motion.lines() {
-            if !line.is_worth {
-                put_line(&mut self.lines, line)?;
-                continue;
-            }
-            self.worth = self.worth.saturating_add(1);
-            if self.worth <= MOST_LISTED {
-                self.worth_lines.put("    ");
-                put_line(&mut self.worth_lines, line)?;
+            self.worth.take(line)?;
+            if line.worth_us.is_none() {
+                put_line(&mut self.lines, line.place, &line.text)?;
             }
         }
-        if self.motion.lines().iter().any(|line| !line.is_worth) {
+        if self
+            .motion
+            .lines()
+            .iter()
+            .any(|line| line.worth_us.is_none())
+        {
             self.write()?;
         }
         Ok(())
@@ -78,19 +74,22 @@ impl<'a, W: Write> MotionText<'a, W> {
         }
     }
 
-    /// Puts how many lines are worth looking at, and the first of them.
+    /// Puts how many lines are worth looking at, and those of them that went on for longest.
     fn put_worth(&mut self) -> Result<(), AllocError> {
-        if self.worth == 0 {
+        if self.worth.count() == 0 {
             self.lines.put("worth looking at: nothing\n");
             return Ok(());
         }
         self.lines
-            .put_count("worth looking at: ", self.worth)
-            .put("\n")
-            .put_bytes(self.worth_lines.whole()?);
-        if self.worth > MOST_LISTED {
+            .put_count("worth looking at: ", self.worth.count())
+            .put("\n");
+        for line in self.worth.lines() {
+            self.lines.put("    ");
+            put_line(&mut self.lines, line.place, &line.text)?;
+        }
+        if self.worth.others() > 0 {
             self.lines
-                .put_count("    ... and ", self.worth - MOST_LISTED)
+                .put_count("    ... and ", self.worth.others())
                 .put(" more\n");
         }
         Ok(())
@@ -105,9 +104,9 @@ impl<'a, W: Write> MotionText<'a, W> {
 }
 
 /// Puts a line, with its record and its time.
-fn put_line(lines: &mut Text, line: &MotionLine) -> Result<(), AllocError> {
-    line.place.put(lines);
-    lines.put_bytes(line.text.whole()?).put("\n");
+fn put_line(lines: &mut Text, place: Place, text: &Text) -> Result<(), AllocError> {
+    place.put(lines);
+    lines.put_bytes(text.whole()?).put("\n");
     Ok(())
 }
 

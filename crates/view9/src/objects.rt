@@ -5,6 +5,7 @@ mod told;
 mod why;
 
 use crate::field::Field;
+use crate::motion::Motion;
 use deck9::Profile;
 use line::Line;
 use report9::{Detail, Extent, JudgeError, RunVerdict, Verdict, known_state};
@@ -23,6 +24,8 @@ pub struct Json<'a, W: Write> {
     /// How the line of an exchange tells it; none where exchanges have no line.
     detail: Option<Detail>,
     extent: Extent,
+    /// What the deck did after its commands, where exchanges have lines.
+    motion: Motion<'a>,
 }
 
 impl<'a, W: Write> Json<'a, W> {
@@ -43,6 +46,16 @@ impl<'a, W: Write> Json<'a, W> {
             profile: of.profile,
             detail,
             extent: of.scope.extent,
+            motion: Motion::new(alloc, of.profile),
+        }
+    }
+
+    /// Writes the line of the command that was not obeyed for longest, where one was not.
+    fn write_not_obeyed(&mut self) -> Result<(), JudgeError> {
+        self.motion.end_part()?;
+        match self.motion.not_obeyed() {
+            Some(not_obeyed) => Line::not_obeyed(self.alloc, &not_obeyed).write(self.writer),
+            None => Ok(()),
         }
     }
 }
@@ -102,12 +115,14 @@ fn exchange_line<'e>(
 
 impl<W: Write> View for Json<'_, W> {
     fn exchange(&mut self, seen: &SeenExchange<'_>) -> Result<(), JudgeError> {
-        match self.detail {
-            Some(detail) if seen.is_shown => {
-                exchange_line(self.alloc, self.profile, detail, seen).write(self.writer)
-            }
-            _ => Ok(()),
+        let Some(detail) = self.detail else {
+            return Ok(());
+        };
+        self.motion.exchange(seen)?;
+        if !seen.is_shown {
+            return Ok(());
         }
+        exchange_line(self.alloc, self.profile, detail, seen).write(self.writer)
     }
 
     fn late(&mut self, late: &SeenBreak) -> Result<(), JudgeError> {
@@ -118,6 +133,7 @@ impl<W: Write> View for Json<'_, W> {
     }
 
     fn broken(&mut self, broken: &SeenBreak) -> Result<(), JudgeError> {
+        self.motion.end_part()?;
         // The first break is the verdict, which is told at the end.
         if self.extent == Extent::FirstBreak || !broken.is_shown {
             return Ok(());
@@ -126,6 +142,7 @@ impl<W: Write> View for Json<'_, W> {
     }
 
     fn end(&mut self, ending: &Ending) -> Result<(), JudgeError> {
+        self.write_not_obeyed()?;
         let alloc = self.alloc;
         let line = match ending {
             Ending::Verdict(Verdict::No { at, reason }) => Line::no(alloc, *at, *reason),

@@ -114,10 +114,23 @@ impl Answer {
 
     /// Whether a later answer's time is that of a jump from this one.
     fn jumps_to(&self, later: &Answer) -> bool {
+        let (frames, _) = pace(self.rate);
+        let beyond = self.beyond_clock(later);
+        self.frames_to(later) != 0 && beyond > JUMP_S * 1_000_000 * u128::from(frames)
+    }
+
+    /// How much more or less than the clock a later answer's time moved by, in microseconds.
+    pub(crate) fn jumped_us(&self, later: &Answer) -> u64 {
+        let (frames, _) = pace(self.rate);
+        u64::try_from(self.beyond_clock(later) / u128::from(frames.max(1))).unwrap_or(u64::MAX)
+    }
+
+    /// The same, in microseconds times the frames of a second.
+    fn beyond_clock(&self, later: &Answer) -> u128 {
         let (frames, us) = pace(self.rate);
         let moved = i128::from(self.frames_to(later)).saturating_mul(i128::from(us));
         let passed = i128::from(later.place.since(self.place)).saturating_mul(i128::from(frames));
-        moved != 0 && moved.abs_diff(passed) > JUMP_S * 1_000_000 * u128::from(frames)
+        moved.abs_diff(passed)
     }
 }
 
@@ -160,7 +173,7 @@ impl Track {
     }
 
     /// The microseconds from the first answer to the last.
-    fn elapsed_us(&self) -> u64 {
+    pub(crate) fn elapsed_us(&self) -> u64 {
         self.last.place.since(self.first.place)
     }
 

@@ -2,9 +2,10 @@
 
 use crate::by_itself::{has_line_for, put_going};
 use crate::called::Called;
+use crate::not_obeyed::{NotObeyed, is_on_the_way};
 use crate::track::{Place, Track, put_track};
-use block9::Command;
-use deck9::{DeckRef, Effect, Going, Known, Mode, ModeSet, Profile};
+use block9::{Command, Exchange};
+use deck9::{DeckRef, Effect, Forgotten, Going, Known, Mode, ModeSet, Profile};
 use report9::put_modes;
 use seen9::SeenExchange;
 use text9::Text;
@@ -44,7 +45,7 @@ pub(crate) struct Followed<'a> {
     going: Going,
     statuses: u32,
     /// How long after the acknowledgement the last status came, in microseconds.
-    statuses_us: u64,
+    pub(crate) statuses_us: u64,
     /// How long after it the first status came that showed the command's mode.
     pub(crate) response_us: Option<u64>,
     /// Which status that was, counted from 1.
@@ -80,8 +81,8 @@ impl Way {
 }
 
 impl<'a> Transport<'a> {
-    /// What the command of an exchange asks for, where it is one of the transport. One that is not listed is one by its group,
-    /// unless a sheet has a name for it, and one after which the deck may act by itself is one with a name too.
+    /// What the command of an exchange asks for, where it is one of the transport. One that is not listed is one by its group; where a
+    /// sheet has a name for it, only if by the sheet the tape may move otherwise after it, or the deck may act by itself.
     pub(crate) fn of(profile: &'a Profile, seen: &SeenExchange<'_>) -> Option<Transport<'a>> {
         let command = &seen.exchange.command;
         let called = Called::of(profile, seen.exchange);
@@ -89,7 +90,7 @@ impl<'a> Transport<'a> {
             (Effect::Go(mode), _) => Some(mode),
             (Effect::KeepOr(_), _) => None,
             (_, Called::Head(head)) if head / 0x10_00 == 2 => None,
-            _ if has_line_for(profile, seen.exchange) => None,
+            _ if has_line_for(profile, seen.exchange) || may_move(profile, seen.exchange) => None,
             _ => return None,
         };
         let way = Way::of(command);
@@ -134,6 +135,17 @@ impl<'a> Followed<'a> {
         self.transport.mode.is_some() && self.response_us.is_none() && self.statuses > 0
     }
 
+    /// The command as one that was not obeyed, after which these modes were shown; none where it was, or may have been.
+    pub(crate) fn not_obeyed(&self, shown: &[(ModeSet, u32)]) -> Option<NotObeyed<'a>> {
+        let goal = self.transport.mode?;
+        let may_be = self.is_local || shown.iter().any(|(modes, _)| is_on_the_way(goal, *modes));
+        (self.is_never_shown() && !may_be).then_some(NotObeyed {
+            called: self.transport.called,
+            place: self.place,
+            lasts_us: self.statuses_us,
+        })
+    }
+
     /// Puts its text: what came of it, how often which modes were shown, the times, and what the deck may do by itself after it.
     pub(crate) fn put(&self, line: &mut Text, shown: &[(ModeSet, u32)]) {
         line.put_with(|text| self.transport.called.put(text));
@@ -175,6 +187,22 @@ impl<'a> Followed<'a> {
             .put(noun)
             .put_seconds(" over ", self.statuses_us)
             .put(" s");
+    }
+}
+
+/// Whether a command that is not listed, and that the deck acknowledged, may change what the tape does by what a sheet says of it: by its
+/// goals; and a command of the transport's group, unless it forgets nothing of the motion.
+fn may_move(profile: &Profile, exchange: &Exchange) -> bool {
+    if exchange.only_asks() {
+        return false;
+    }
+    match profile.deck_ref().effect(&exchange.command) {
+        Effect::KeepOr(_) => true,
+        Effect::Forget(Forgotten::Motion | Forgotten::Tape | Forgotten::Everything) => exchange
+            .block
+            .group
+            == 2,
+        _ => false,
     }
 }
 

@@ -11,6 +11,9 @@ use text9::Text;
 /// For how long a time stands still where that is worth looking at, in microseconds.
 const STILL_US: u64 = 1_000_000;
 
+/// For how long something goes on at least that is worth looking at, in microseconds.
+pub(crate) const LEAST_WORTH_US: u64 = 500_000;
+
 /// Statuses that show the same modes, with no command between that asks for another mode or way.
 #[derive(Clone, Copy)]
 pub(crate) struct Showing {
@@ -97,7 +100,7 @@ impl Showing {
         still.put(&mut text);
         text.put_seconds(" for ", track.still_us).put(" s");
         self.put_while(&mut text);
-        tell(told, still.place, true, text)
+        tell(told, still.place, Some(track.still_us), text)
     }
 
     /// Weighs how often the time jumped.
@@ -105,6 +108,7 @@ impl Showing {
         let Some((from, to)) = &track.jump else {
             return Ok(());
         };
+        let worth_us = Some(from.jumped_us(to));
         let mut text = Text::new(*told.allocator());
         text.put(to.name()).put(" jumps from ");
         from.put(&mut text);
@@ -117,7 +121,7 @@ impl Showing {
                 .put(" jumps");
         }
         self.put_while(&mut text);
-        tell(told, to.place, true, text)
+        tell(told, to.place, worth_us, text)
     }
 
     /// Tells of a time that runs, against a command where one is given.
@@ -137,7 +141,7 @@ impl Showing {
         text.put(", ");
         track.put(&mut text);
         self.put_while(&mut text);
-        tell(told, self.from, true, text)
+        tell(told, self.from, Some(track.elapsed_us()), text)
     }
 
     /// Whether the command's mode is shown, and the time runs against its way.

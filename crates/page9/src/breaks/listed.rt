@@ -31,6 +31,12 @@ impl Listed {
         }
     }
 
+    /// How many bytes it takes, without what every entry has.
+    pub(super) fn len(&self) -> usize {
+        let told = self.sentence.len().saturating_add(self.why.len());
+        told.saturating_add(self.replies.len())
+    }
+
     /// Puts the entry, with its picture where it has one. Of the first of all its parts are open.
     pub(super) fn put(&self, html: &mut Markup, picture: Option<&Markup>, is_first: bool) {
         html.put_mark("<details class=\"break\" id=\"");

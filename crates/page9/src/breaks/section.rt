@@ -4,7 +4,6 @@ use crate::again::Again;
 use crate::breaks::Breaks;
 use crate::doubts::Doubts;
 use block9::Reason;
-use picture9::MOST_PICTURES;
 use text9::{Done, Markup};
 
 impl Breaks<'_> {
@@ -12,7 +11,7 @@ impl Breaks<'_> {
     pub(crate) fn put(&self, html: &mut Markup, again: &Again<'_>, doubts: &Doubts) -> Done {
         html.put_mark("<section id=\"breaks\">\n<h2>Breaks</h2>\n");
         if self.count == 0 {
-            html.put_mark("<p>No record breaks a rule.</p>\n");
+            self.put_none(html);
         } else {
             self.reasons.put(html, doubts)?;
             self.put_advice(html);
@@ -21,6 +20,17 @@ impl Breaks<'_> {
         }
         html.put_mark("</section>\n");
         Ok(())
+    }
+
+    /// Puts that no break is shown.
+    fn put_none(&self, html: &mut Markup) {
+        html.put_mark(if self.outside.count() > 0 {
+            "<p>No record of this stretch breaks a rule."
+        } else {
+            "<p>No record breaks a rule."
+        });
+        self.outside.put(html);
+        html.put_mark("</p>\n");
     }
 
     /// Puts what to look at first, and what to think of several breaks.
@@ -91,10 +101,11 @@ impl Breaks<'_> {
             again.put(html, "why --all");
             html.put_mark("</code> lists them.</p>\n");
         }
-        if self.listed.len() > MOST_PICTURES {
+        let pictures = self.pictures.count();
+        if self.listed.len() > pictures {
             html.put_filled(
                 "<p class=\"soft\">The first {n} breaks have a picture. <code>",
-                &[MOST_PICTURES as u64],
+                &[pictures as u64],
             );
             again.put(html, "picture --all --at RECORD");
             html.put_mark("</code> draws any other.</p>\n");

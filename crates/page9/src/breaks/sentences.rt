@@ -39,8 +39,8 @@ fn asked_open<'a>(profile: &'a Profile, tail: &[LineByte], open: &Open) -> Optio
     }
     let asked = tail.get(..open.asked)?;
     let (first, second) = (asked.first()?.byte, asked.get(1)?.byte);
-    match command_name(first, second) {
-        Some(name) => Some(Called::Name(name.as_bytes())),
+    match command_name(profile, first, second) {
+        Some(name) => Some(Called::Name(name)),
         None => Some(Called::Head(
             u32::from(first)
                 .saturating_mul(256)

@@ -5,7 +5,7 @@ use report9::{WhyNo, put_why_for};
 use text9::{Done, Markup};
 
 /// How many replies contradict one another; none where the break is another one.
-pub(super) fn replies_of(why: &WhyNo) -> usize {
+fn replies_of(why: &WhyNo) -> usize {
     match why {
         WhyNo::Contradiction { places, .. } => places.len(),
         WhyNo::Break { .. } => 0,

@@ -6,6 +6,7 @@ ghost use Rattle.view9.specs.Working.{AppendsMembers};
 
 use crate::by_itself::registers_of;
 use crate::field::Field;
+use crate::not_obeyed::NotObeyed;
 use crate::objects::told::{Told, text_in};
 use bitflags::Flags;
 use block9::{Command, Exchange, NakBits, Reason};
@@ -78,6 +79,17 @@ impl<'a> Line<'a> {
         line.put("exchanges", Told::Count(u64::from(totals.exchanges)));
         line.put("passed_over", Told::Count(u64::from(totals.passed_over)));
         line.put("open", Told::Count(u64::from(totals.tail)));
+        line
+    }
+
+    /// A command that was not obeyed.
+    pub(super) fn not_obeyed(alloc: Global, not_obeyed: &NotObeyed<'_>) -> Line<'a> {
+        let mut line = Line::new(alloc, "not_obeyed");
+        let place = not_obeyed.place;
+        line.put("record", Told::Count(u64::from(place.record)));
+        line.put("time_us", Told::Count(place.time_us));
+        line.put_text("command", |text| not_obeyed.called.put(text));
+        line.put("lasts_us", Told::Count(not_obeyed.lasts_us));
         line
     }
 
