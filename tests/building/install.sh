@@ -257,8 +257,10 @@ complete_words ninecheck why --rate ''
 expect 'rates are offered' 0 '24 25 30 29.97df' ''
 complete_words ninecheck why --rate = 2
 expect 'rates are offered after an equals sign' 0 '24 25 29.97df' ''
-complete_words ninecheck check --deck decks/n
+complete_words ninecheck check --deck decks/ni
 expect 'a sheet is completed' 0 'decks/nine-pin-commands.toml' ''
+complete_words ninecheck check --deck 9
+expect 'a sheet inside the program is completed' 0 '9pin' ''
 complete_words ninecheck check examples/play
 expect 'a file is completed' 0 'examples/play.csv' ''
 
