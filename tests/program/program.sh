@@ -278,7 +278,8 @@ expect 'an empty file' 3 '' "$(both_lines 'unreadable at row 0: header' '' "$wor
 as=
 [ "$(id -u)" != 0 ] || as='setpriv --reuid=65534 --regid=65534 --clear-groups'
 mkdir "$work/others"
-cp "$program" examples/play.csv "$work/others"
+cp "$program" "$work/others/ninecheck"
+cp examples/play.csv "$work/others"
 chmod 755 "$work" "$work/others"
 chmod 000 "$work/others/play.csv"
 $as "$work/others/ninecheck" check "$work/others/play.csv" > "$work/out" 2> "$work/err" < /dev/null
