@@ -593,7 +593,8 @@ $work/no-capture.csv: No such file or directory"
     cp "$work/out" "$work/once"
     once=$status
     run $verb --deck "$work/ee.toml" --deck "$work/ee.toml" "$work/capture.csv"
-    judge "$verb and a sheet twice" eval '[ "$status" = "$once" ] && cmp -s "$work/once" "$work/out"'
+    cmp -s "$work/once" "$work/out" || status=different
+    judge "$verb and a sheet twice" [ "$status" = "$once" ]
 done
 
 # ---- The sheet is read before the capture is opened: nobody writes to this one, so whoever opens it waits.
