@@ -148,7 +148,7 @@ pub fn text_again<R: Read + Drop>(text: &[u8]) -> Again<'_, R>
     Again::Kept(text)
 }
 
-/// Reads a capture to its end, to be read again and again. The error is that of the reader, or that memory is refused.
+/// Reads a text to its end, a capture to be read again and again among them. The error is that of the reader, or that memory is refused.
 ///
 /// It reads by a loop of its own, since the library's `read_to_end` first clears all room that it reads into, a byte at a time.
 pub fn read_whole<R: Read + Drop>(alloc: Global, reader: R) -> io::Result<Vec<u8>>

@@ -1,9 +1,10 @@
 //! The deck's sheets: from the files that the words name to what the deck does of its own.
-ghost use Rattle.std.specs.Prelude.{◌≡◌, Err, IfErr, IfOk, IfSome, Ok, map};
+ghost use Rattle.std.specs.Prelude.{◌≡◌, Err, IfErr, IfOk, Ok, map};
 ghost use Rattle.std.specs.Fn.{FnReturnsAt};
 ghost use Rattle.std.specs.String.{string_bytes};
 ghost use Rattle.program9.specs.Sheet.{AreTexts, EndsNotRead, EndsOther, EndsReading, EndsUnread, FindsDeck, IsNamed, IsTextOf, IsToldOf, IsUnopened};
 
+use crate::again::read_whole;
 use crate::ending::{ClashingSheets, Message, Outcome, Unopened, UnreadSheet};
 use crate::program::{not_opened, why_of};
 use crate::shipped::shipped;
@@ -53,13 +54,12 @@ fn read_text<G: Fn(&String) -> io::Result<S>, S: Read + Drop>(
     requires { G.IsAlwaysCallable opener.now }
     ensures { IfErr result (λ end. IsUnopened file end) }
 {
-    let mut reader = match opener(&file) {
+    let reader = match opener(&file) {
         Ok(reader) => reader,
         Err(e) => return Err(not_opened(Some(file), &e)),
     };
-    let mut text = Vec::new(alloc);
-    match reader.read_to_end(&mut text) {
-        Ok(_) => Ok(text),
+    match read_whole(alloc, reader) {
+        Ok(text) => Ok(text),
         Err(e) => Err(not_opened(Some(file), &e)),
     }
 }
@@ -126,21 +126,12 @@ fn read_one<G: Fn(&String) -> io::Result<S>, S: Read + Drop>(
         };
     }
     match opener(file) {
-        Ok(reader) => match read_all(alloc, reader) {
+        Ok(reader) => match read_whole(alloc, reader) {
             Ok(text) => Ok(text),
             Err(e) => Err(not_read(alloc, file.as_str(), &e)),
         },
         Err(e) => Err(not_read(alloc, file.as_str(), &e)),
     }
-}
-
-/// Reads a sheet to its end.
-fn read_all<S: Read + Drop>(alloc: Global, mut reader: S) -> io::Result<Vec<u8>>
-    ensures { IfOk result (λ text. IfSome (S.remaining reader) (λ known. text.items ≡ known)) }
-{
-    let mut text = Vec::new(alloc);
-    reader.read_to_end(&mut text)?;
-    Ok(text)
 }
 
 /// The end where a sheet was not opened, or not read to its end.

@@ -247,6 +247,7 @@ impl<S: TimeSet> Part<S> {
     }
 
     /// The deck is commanded to a mode, which it may also ignore where `may_stay`.
+    #[inline(always)] // many commands are of the transport
     pub(crate) fn go(&mut self, may_stay: bool, goal: Mode)
         ensures { self.new ≡ where_remains (gone_part may_stay goal) self.old }
     {
