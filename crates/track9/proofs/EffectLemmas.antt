@@ -9,7 +9,7 @@ use Rattle.track9.proofs.Words.{inr, InHalves, is_as_wanted, part_remains, is_mo
 use Rattle.track9.proofs.Words.{no_states, None, Option, or-true, or_cases, Part, Presets, put_settled}
 use Rattle.track9.proofs.Words.{refl, RegAudioIn, RegAudioOut, RegIn, Register, RegistersSet, RegOut, reported_part, sensed_part, set_where, settled}
 use Rattle.track9.proofs.Words.{shown_with, ShowsStatus, Some, some_entry, some_mode, some_pair, halves_remain, State, Status, status_part, subst, sym, TakenQuietly, true}
-use Rattle.track9.proofs.Words.{halves_changed, halves_drifted, halves_gone, halves_kept_or_gone, halves_sensed, halves_status, HalvesBelow, HalvesFew, Halves, HalvesWhole, where_remains, Whole, with_entries, with_entry}
+use Rattle.track9.proofs.Words.{halves_changed, halves_drifted, halves_kept_or_gone, halves_sensed, halves_status, HalvesBelow, HalvesFew, Halves, HalvesWhole, where_remains, Whole, with_entries, with_entry}
 use Rattle.track9.proofs.Words.{Rate, halves_rate, part_rate, untouched, with_pairs, ℕ, ◌&&◌, ◌||◌, ◌↔◌, ◌∙◌, ◌≡◌, ◌⊎◌}
 use Rattle.track9.specs.Working.Acting.{Acted, quiet}
 use Rattle.deck9.specs.declared.effect.Effect.TheVariants as effect
@@ -120,19 +120,8 @@ goal_goes : (may_stay : Bool) (goal : Mode) (p : List ModeSet) (m : Mode) → ha
 goal_goes b goal p m h = goal_has b goal p goal m ∙ rw (mode_self goal, h) (or-true (b && has_pair p goal m))
 
 -- a command leaves a state
-gone_some : (may_stay : Bool) (goal : Mode) (p : List ModeSet) → some_pair p ≡ true → some_pair (gone_pairs may_stay goal p) ≡ true
+pub gone_some : (may_stay : Bool) (goal : Mode) (p : List ModeSet) → some_pair p ≡ true → some_pair (gone_pairs may_stay goal p) ≡ true
 gone_some b goal p some = let m = some_mode (all_shown p) some in pairs_some (gone_pairs b goal p) goal m.0 (goal_goes b goal p m.0 m.1)
-
-live_gone : (may_stay : Bool) (goal : Mode) (p : Part) → part_remains (where_remains (gone_part may_stay goal) p) ≡ part_remains p
-live_gone m goal p = by (part_remains p) refl
-  where
-    by : (b : Bool) → part_remains p ≡ b → part_remains (if b then gone_part m goal p else p) ≡ b
-    by true live = gone_some m goal p.pairs live
-    by false dead = dead
-
-pub halves_live_gone : (may_stay : Bool) (goal : Mode) (h : Halves) → halves_remain (halves_gone may_stay goal h) ≡ halves_remain h
-halves_live_gone m goal h = ap (λ b. b || part_remains (where_remains (gone_part true goal) h.local)) (live_gone m goal h.remote)
-    ∙ ap (λ b. part_remains h.remote || b) (live_gone true goal h.local)
 
 -- so does one that may lead to some goals
 kept_has : (goals : ModeSet) (p : List ModeSet) (g m : Mode)

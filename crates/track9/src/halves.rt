@@ -151,15 +151,14 @@ impl<S: TimeSet> Halves<S> {
 
     /// A drift of the mechanics, and then the deck is commanded to a mode; a deck in LOCAL may ignore that, and so may any
     /// where `may_stay`. It answers whether there is a state.
-    #[inline(always)] // many commands are of the transport
+    #[inline(never)] // so that the modes are taken side by side
     fn drift_and_go(&mut self, acting: &Acting, may_stay: bool, goal: Mode) -> bool
         ensures gone { self.new ≡ halves_gone may_stay goal (halves_drifted acting.now self.old) }
         ensures some { result ≡ halves_remain self.new }
     {
-        let some = self.drift(acting);
-        self.remote.go(may_stay, goal);
-        self.local.go(true, goal);
-        some
+        let remote = self.remote.drift_and_go(acting, may_stay, goal);
+        let local = self.local.drift_and_go(acting, true, goal);
+        remote || local
     }
 
     /// A drift of the mechanics, and then the deck goes on as it was, or is commanded to one of these modes. It answers whether there is

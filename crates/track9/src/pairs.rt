@@ -218,6 +218,7 @@ impl Pairs {
     }
 
     /// The pairs with this goal in place of theirs, and where `may_stay` as they are too.
+    #[inline(always)] // many commands are of the transport
     pub(crate) fn go(&mut self, may_stay: bool, goal: Mode)
         ensures { self.new.0 ≡ gone_pairs may_stay goal self.old.0 }
     {

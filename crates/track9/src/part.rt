@@ -246,15 +246,18 @@ impl<S: TimeSet> Part<S> {
         self.pairs.drift(acting)
     }
 
-    /// The deck is commanded to a mode, which it may also ignore where `may_stay`.
+    /// A drift of the mechanics, and then the deck is commanded to a mode, which it may also ignore where `may_stay`. It answers whether
+    /// there is a state.
     #[inline(always)] // many commands are of the transport
-    pub(crate) fn go(&mut self, may_stay: bool, goal: Mode)
-        ensures { self.new ≡ where_remains (gone_part may_stay goal) self.old }
+    pub(crate) fn drift_and_go(&mut self, acting: &Acting, may_stay: bool, goal: Mode) -> bool
+        ensures gone { self.new ≡ where_remains (gone_part may_stay goal) (drifted_part acting.now self.old) }
+        ensures live { result ≡ part_remains self.new }
     {
-        if !self.remains() {
-            return;
+        let some = self.pairs.drift(acting);
+        if some {
+            self.pairs.go(may_stay, goal);
         }
-        self.pairs.go(may_stay, goal);
+        some
     }
 
     /// The deck goes on as it was, or is commanded to one of these modes.
