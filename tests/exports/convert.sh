@@ -230,7 +230,7 @@ sigrok: a beginning that is no number|sigrok|--samplerate 1000000 --from 1s|0|--
 sigrok: an end with a decimal comma|sigrok|--samplerate 1000000 --to 1,5|0|--from SECONDS or --to SECONDS is wrong|5-213 uart-1: 20\n
 sigrok: a beginning without a digit before the point|sigrok|--samplerate 1000000 --from .5|0|--from SECONDS or --to SECONDS is wrong|5-213 uart-1: 20\n
 sigrok: an end with an exponent|sigrok|--samplerate 1000000 --to 1e3|0|--from SECONDS or --to SECONDS is wrong|5-213 uart-1: 20\n
-sigrok: an end that is the beginning|sigrok|--samplerate 1000000 --from 1 --to 1.0|0|--from SECONDS or --to SECONDS is wrong|5-213 uart-1: 20\n
+sigrok: an end that is the beginning|sigrok|--samplerate 1000000 --from 1 --to 1.0|0|--to SECONDS has to be later than --from SECONDS|5-213 uart-1: 20\n
 saleae: an end that is no number|saleae|--controller A --deck B --to end|0|--from SECONDS or --to SECONDS is wrong|name,type,start_time,duration,data,error\n
 log: a beginning of two numbers|log|--controller A --deck B --from 1:30|0|--from SECONDS or --to SECONDS is wrong|1 A 20\n
 sigrok: no byte in the stretch|sigrok|--samplerate 1000000 --from 1|1|no byte in this stretch of the export|5-213 uart-1: 20\n

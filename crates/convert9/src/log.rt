@@ -21,7 +21,7 @@ use crate::digits::byte_of;
 use crate::fault::{ConvertFault, refused_words};
 use crate::kept::Kept;
 use crate::lines::{Line, Lines};
-use crate::range::{TimeRange, WRONG_RANGE};
+use crate::range::TimeRange;
 use capture9::Wire;
 use fields::{Fields, fields_of, is_blank};
 use sink::{AtOnce, AtTheEnd, TakesBytes};
@@ -111,8 +111,9 @@ fn asked_by<'a>(alloc: Global, words: LogWords<'a>) -> Result<Asked<'a>, Convert
         Some(b"us") => Some(Unit::Microseconds),
         Some(unit) => return Err(refused_words(alloc, 0, "--unit has to be ms or us: ", unit)),
     };
-    let Some(range) = TimeRange::named(words.from, words.to) else {
-        return Err(refused_words(alloc, 0, WRONG_RANGE, b""));
+    let range = match TimeRange::named(words.from, words.to) {
+        Ok(range) => range,
+        Err(wrong) => return Err(refused_words(alloc, 0, wrong, b"")),
     };
     Ok(Asked {
         controller,

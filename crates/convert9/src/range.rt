@@ -11,23 +11,22 @@ pub(crate) struct TimeRange {
     pub(crate) to_us: Option<i64>,
 }
 
-/// What is wrong where there is no range.
-pub(crate) const WRONG_RANGE: &str = "--from SECONDS or --to SECONDS is wrong";
+/// What is wrong where a word is no number of seconds.
+const NO_SECONDS: &str = "--from SECONDS or --to SECONDS is wrong";
+
+/// What is wrong where a range ends before it begins, or at once.
+const NOT_LATER: &str = "--to SECONDS has to be later than --from SECONDS";
 
 impl TimeRange {
-    /// The range that these words name, in seconds; an empty word names no end. None where one is no number of seconds, or where the
-    /// range ends before it begins.
-    pub(crate) fn named(from: Option<&[u8]>, to: Option<&[u8]>) -> Option<TimeRange> {
-        let range = TimeRange {
-            from_us: end_named(from)?,
-            to_us: end_named(to)?,
+    /// The range that these words name, in seconds; an empty word names no end. An error is what is wrong: one is no number of seconds, or
+    /// the range ends no later than it begins.
+    pub(crate) fn named(from: Option<&[u8]>, to: Option<&[u8]>) -> Result<TimeRange, &'static str> {
+        let (Some(from_us), Some(to_us)) = (end_named(from), end_named(to)) else {
+            return Err(NO_SECONDS);
         };
-        match range {
-            TimeRange {
-                from_us: Some(from_us),
-                to_us: Some(to_us),
-            } if from_us >= to_us => None,
-            range => Some(range),
+        match (from_us, to_us) {
+            (Some(from_us), Some(to_us)) if from_us >= to_us => Err(NOT_LATER),
+            _ => Ok(TimeRange { from_us, to_us }),
         }
     }
 

@@ -9,7 +9,7 @@ use crate::digits::byte_of;
 use crate::fault::{ConvertFault, refused_words};
 use crate::kept::{KeepFault, Kept, Ties};
 use crate::lines::Line;
-use crate::range::{TimeRange, WRONG_RANGE};
+use crate::range::TimeRange;
 use crate::seconds::read_seconds_with_power;
 use capture9::{CaptureKind, Wire, read_fields};
 use csv::{ByteRecord, Reader, ReaderBuilder, Terminator};
@@ -71,8 +71,9 @@ pub fn convert_saleae<R: Read + Drop, W: Write + Drop>(
     writer: W,
     words: SaleaeWords<'_>,
 ) -> Result<(), ConvertFault> {
-    let Some(range) = TimeRange::named(words.from, words.to) else {
-        return Err(refused_words(alloc, 0, WRONG_RANGE, b""));
+    let range = match TimeRange::named(words.from, words.to) {
+        Ok(range) => range,
+        Err(wrong) => return Err(refused_words(alloc, 0, wrong, b"")),
     };
     let mut kept = Kept::new(alloc);
     let mut rows = ReaderBuilder::new()

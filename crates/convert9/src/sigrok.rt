@@ -7,7 +7,7 @@ use crate::digits::{byte_of, number_of, number_up_to, signed, split_digits};
 use crate::fault::{ConvertFault, refused_words};
 use crate::kept::{Kept, Ties};
 use crate::lines::{Line, Lines};
-use crate::range::{TimeRange, WRONG_RANGE};
+use crate::range::TimeRange;
 use capture9::Wire;
 use itoa::Buffer;
 use std::alloc::Global;
@@ -72,8 +72,9 @@ pub fn convert_sigrok<R: Read + Drop, W: Write + Drop>(
             b"",
         ));
     };
-    let Some(range) = TimeRange::named(words.from, words.to) else {
-        return Err(refused_words(alloc, 0, WRONG_RANGE, b""));
+    let range = match TimeRange::named(words.from, words.to) {
+        Ok(range) => range,
+        Err(wrong) => return Err(refused_words(alloc, 0, wrong, b"")),
     };
     let mut export = Export {
         samplerate,

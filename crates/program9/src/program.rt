@@ -41,7 +41,7 @@ struct Begun<R: Read + Drop, W: Write + Drop> {
 /// was refused. `maker` makes what the words ask for beside the reports of a judging, and promises what it says. The end is
 ///
 /// * `Usage` only where the words are no command, or could not be fetched as text: nothing is written;
-/// * `NoValue` only where the words are one, but for the value of `--from` or `--to`, which is no time: nothing is written;
+/// * `NoValue` only where the words are one, but for the value of an option, which can't be it: nothing is written;
 /// * the `Outcome` of the judging that the words ask for, without the message of a write fault where `out` is a pipe whose reader is
 ///   gone: with their verb, at their rate, with hands where they say so, for a deck that does what the sheets say, from the first
 ///   record that may begin a command where they say `--sync`, with `explain` each exchange with its bytes where they say `--bytes`,

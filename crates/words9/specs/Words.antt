@@ -1,5 +1,5 @@
 -- What the words of the command line ask for, by `clap`'s own definition of a command and its words.
-use Rattle.std.specs.Prelude.{◌≡◌, List, [], ◌++◌, ◌∷◌, Option, Some, None, codes, find, map, option_map, Bool, true, false, ◌&&◌, ◌||◌, if◌then◌else◌}
+use Rattle.std.specs.Prelude.{◌≡◌, ◌<◌, IfSome, List, [], ◌++◌, ◌∷◌, Option, Some, None, codes, find, map, option_map, Bool, true, false, ◌&&◌, ◌||◌, if◌then◌else◌}
 use Rattle.std.specs.List.{fold}
 use Rattle.std.specs.Borrow.{Bor}
 use Rattle.std.specs.Option.{unwrap_or}
@@ -286,9 +286,11 @@ asked_of verb rows stretch drawing = record {
   quiet = has (codes "quiet") rows;
 }
 
--- where no option names a time, all of the capture is shown
-abbrev pub IsStretchOf : List Row → Stretch → Type 0
-IsStretchOf rows stretch = (first_of (codes "from") rows ≡ None → stretch.from_us ≡ 0) × (first_of (codes "to") rows ≡ None → stretch.to_us ≡ None)
+-- where no option names a time, all of the capture is shown; and a stretch ends behind its beginning
+pub record IsStretchOf (rows : List Row) (stretch : Stretch) : Type 0 where
+  pub from : first_of (codes "from") rows ≡ None → stretch.from_us ≡ 0
+  pub to : first_of (codes "to") rows ≡ None → stretch.to_us ≡ None
+  pub order : IfSome stretch.to_us (λ to_us. stretch.from_us < to_us)
 
 -- where no option names a record, the first break is drawn, and where none names a width, the picture may be 1,200 pixels wide
 abbrev pub IsDrawingOf : List Row → Drawing → Type 0

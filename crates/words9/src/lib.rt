@@ -9,6 +9,7 @@
 
 mod arguments;
 mod hint;
+mod stretch;
 mod task;
 mod times;
 mod usage;
@@ -17,7 +18,7 @@ mod words;
 
 pub use hint::rate_hint;
 pub use task::{
-    Asked, Drawing, Export, ExportWords, Made, NoValue, Report, Task, VERSION_LINE, Verb,
+    Asked, Drawing, Export, ExportWords, Made, NoValue, Report, Task, Unfit, VERSION_LINE, Verb,
     WordsFault,
 };
 pub use words::read_words;

@@ -191,7 +191,8 @@ pub enum WordsFault {
     Usage(Option<Error>),
     /// The words ask for the program's version: [`VERSION_LINE`].
     Version,
-    /// The value of `--from` or of `--to` is no time, or that of `--at` or of `--width` no number that it may be.
+    /// The value of `--from` or of `--to` is no time, that of `--to` is no later than that of `--from`, or that of `--at` or `--width` is
+    /// no number that it may be.
     NoValue(NoValue),
     /// A growth of memory was refused.
     NoMemory,
@@ -204,12 +205,23 @@ pub struct NoValue {
     pub option: &'static str,
     /// What was given.
     pub value: String,
+    /// Why it can't have that.
+    pub unfit: Unfit,
+}
+
+/// Why an option can't have a value.
+#[derive(Clone, Copy, PartialEq, Eq)]
+pub enum Unfit {
+    /// It is no time, or no number that it may be.
+    Malformed,
+    /// It is a time, and no later than that of `--from`, which is 0 where it is left out.
+    NotLater,
 }
 
 impl fmt::Display for NoValue {
     fn fmt<W: fmt::Write>(&self, f: &mut fmt::Formatter<W>) -> fmt::Result {
         let (option, value) = (self.option, self.value.as_str());
-        let wanted = wanted_of(option);
+        let wanted = wanted_of(option, self.unfit);
         write!(
             f,
             "error: invalid value '{value}' for '--{option} {wanted}\n\nFor more information, try '--help'."
@@ -217,11 +229,12 @@ impl fmt::Display for NoValue {
     }
 }
 
-/// What the value of an option is called, and what it may be.
-fn wanted_of(option: &str) -> &'static str {
-    match option {
-        "at" => "<RECORD>': a record has a number from 1 on",
-        "width" => "<PIXELS>': a width is a number from 700 on",
+/// What the value of an option is called, and what it has to be instead of one that is unfit so.
+fn wanted_of(option: &str, unfit: Unfit) -> &'static str {
+    match (option, unfit) {
+        (_, Unfit::NotLater) => "<TIME>': it has to be later than --from, which is 0 if left out",
+        ("at", _) => "<RECORD>': a record has a number from 1 on",
+        ("width", _) => "<PIXELS>': a width is a number from 700 on",
         _ => "<TIME>': a time is seconds, such as 12.5, or a clock, such as 14:30:47.25",
     }
 }

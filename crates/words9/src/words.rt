@@ -3,12 +3,13 @@ ghost use Rattle.std.specs.Prelude.{◌≡◌, ◌≢◌, IfOk, MatchOption, Opt
 ghost use Rattle.std.specs.String.{string_bytes};
 ghost use Rattle.clap.specs.Words.{first_of, found_of, kind_of, rows_of};
 ghost use Rattle.clap.specs.declared.error.Error.{Error as ClapError};
-ghost use Rattle.words9.specs.Words.{AsksVersion, IsNoTask, IsDrawingOf, IsExportOf, IsStretchOf, IsTaskOf, MayAskVersion, asked_of, beginning_of, extent_of, hands_of, is_asked, is_export, is_on, is_pair, joined, name_of, rate_named, rate_of, report_of, shown, values_of};
+ghost use Rattle.words9.specs.Words.{AsksVersion, IsNoTask, IsDrawingOf, IsExportOf, IsTaskOf, MayAskVersion, asked_of, beginning_of, extent_of, hands_of, is_asked, is_export, is_on, is_pair, joined, name_of, rate_named, rate_of, report_of, shown, values_of};
 
+use crate::stretch::stretch_of;
 use crate::task::{
-    Asked, Drawing, Export, ExportWords, Made, NoValue, Report, Task, Verb, WordsFault,
+    Asked, Drawing, Export, ExportWords, Made, NoValue, Report, Task, Unfit, Verb, WordsFault,
 };
-use crate::times::{read_count, read_time};
+use crate::times::read_count;
 use crate::usage::{parsed, rate_names};
 use clap::error::ErrorKind;
 use clap::{ArgMatches, Error};
@@ -31,8 +32,8 @@ use tc25::Rate;
 /// * `Err(Usage)` only where it does not take them, and they are not those that ask for the version. Words that ask for
 ///   help are not taken.
 /// * `Err(Version)` only where they ask for the version, and that is, or may be, the first thing that stops the definition.
-/// * `Err(NoValue)` only where the definition takes the words, and a value of `--from` or `--to` is no time, or one of `--at` or
-///   `--width` no number that it may be. That of an export is not looked at.
+/// * `Err(NoValue)` only where the definition takes the words, and a value of `--from` or `--to` is no time, that of `--to` is no later
+///   than that of `--from` (0 if left out), or one of `--at` or `--width` is no number that it may be. That of an export is not looked at.
 /// * `Err(NoMemory)` where a growth of memory is refused.
 pub fn read_words(alloc: Global, words: Vec<String>) -> Result<Task, WordsFault>
     ensures task { IfOk result (IsTaskOf (joined (map (λ s. string_bytes s) words.items))) }
@@ -127,41 +128,6 @@ fn is_export(word: &str) -> bool
     word == "sigrok" || word == "saleae" || word == "log"
 }
 
-/// The stretch that the options name: all of the capture where they name none.
-fn stretch_of(alloc: Global, found: &ArgMatches<'_>) -> Result<Stretch, WordsFault>
-    ensures stretch { IfOk result (IsStretchOf (rows_of (found_of found.now))) }
-    ensures usage { (o : Option ClapError) → result ≢ Err (WordsFault.Usage o) }
-    ensures version { result ≢ Err WordsFault.Version }
-{
-    let from_us = time_of(alloc, found, "from")?;
-    Ok(Stretch {
-        from_us: from_us.unwrap_or(0),
-        to_us: time_of(alloc, found, "to")?,
-    })
-}
-
-/// The time that the subcommand was given with this option, in microseconds.
-fn time_of(
-    alloc: Global,
-    found: &ArgMatches<'_>,
-    option: &'static str,
-) -> Result<Option<u64>, WordsFault>
-    ensures none { IfOk result (λ time. first_of option.now (rows_of (found_of found.now)) ≡ None → time ≡ None) }
-    ensures usage { (o : Option ClapError) → result ≢ Err (WordsFault.Usage o) }
-    ensures version { result ≢ Err WordsFault.Version }
-{
-    let Ok(value) = value_of(alloc, found, option) else {
-        return Err(WordsFault::NoMemory);
-    };
-    let Some(value) = value else {
-        return Ok(None);
-    };
-    match read_time(value.as_str()) {
-        Some(time_us) => Ok(Some(time_us)),
-        None => Err(WordsFault::NoValue(NoValue { option, value })),
-    }
-}
-
 /// What the options ask of a picture: the first break, and a width of 1,200 pixels, where they ask for nothing else.
 fn drawing_of(alloc: Global, found: &ArgMatches<'_>) -> Result<Drawing, WordsFault>
     ensures drawing { IfOk result (IsDrawingOf (rows_of (found_of found.now))) }
@@ -195,7 +161,11 @@ fn number_of(
     };
     match read_count(value.as_str()) {
         Some(number) if number >= least => Ok(Some(number)),
-        _ => Err(WordsFault::NoValue(NoValue { option, value })),
+        _ => Err(WordsFault::NoValue(NoValue {
+            option,
+            value,
+            unfit: Unfit::Malformed,
+        })),
     }
 }
 
@@ -356,7 +326,7 @@ fn verb_of(name: &str) -> Option<Verb>
 }
 
 /// What the subcommand was given for this argument.
-fn value_of(
+pub(crate) fn value_of(
     alloc: Global,
     found: &ArgMatches<'_>,
     argument: &str,
