@@ -2,15 +2,18 @@
 
 # _ninecheck_options WORD...: the options of a word, or of an export.
 _ninecheck_options() {
-    local judging='--hands --sync --all --line-buffered --rate --deck'
+    local always='--hands --sync --rate --deck'
+    local judging="$always --all --line-buffered"
     case $1 in
         check) echo "$judging --help" ;;
         explain) echo "--bytes $judging --help" ;;
-        digest | delays | motion | page | json | 'json explain') echo "--bytes $judging --from --to --help" ;;
-        'json check' | 'json why') echo "$judging --from --to --help" ;;
+        json | 'json explain') echo "--bytes $judging --from --to --help" ;;
+        digest | motion | 'json check' | 'json why') echo "$judging --from --to --help" ;;
+        delays) echo "$always --all --from --to --help" ;;
+        page) echo "$always --from --to --help" ;;
         why) echo "$judging --quiet --help" ;;
-        run | 'json run') echo '--hands --sync --rate --deck --help' ;;
-        picture) echo "$judging --at --width --help" ;;
+        run | 'json run') echo "$always --help" ;;
+        picture) echo "$always --all --at --width --help" ;;
         touches) echo '--sync --rate --deck --help' ;;
         try) echo '--all --sync --rate --deck --help' ;;
         clock) echo '--seconds --help' ;;

@@ -29,9 +29,9 @@ complete -c ninecheck -n '__fish_seen_subcommand_from help' -f -a "$judging $oth
 complete -c ninecheck -n '__ninecheck_asks convert; and not __fish_seen_subcommand_from sigrok saleae log' -f -a 'sigrok saleae log'
 complete -c ninecheck -n "__ninecheck_asks $judging; and not __fish_seen_subcommand_from touches" -l hands -d "Somebody may have touched the deck's panel"
 complete -c ninecheck -n "__ninecheck_asks $judging try info" -l sync -d 'The capture may begin inside a command or a reply'
-complete -c ninecheck -n "__ninecheck_asks check explain why digest delays motion picture page json try; and not __fish_seen_subcommand_from run" -l all -d 'Go on after each break'
-complete -c ninecheck -n "__ninecheck_asks check explain why digest delays motion picture page json; and not __fish_seen_subcommand_from run" -l line-buffered -d 'Write each line as soon as it is complete'
-complete -c ninecheck -n '__ninecheck_asks explain digest delays motion page json; and not __fish_seen_subcommand_from check run why' -l bytes -d 'Write each exchange with its bytes, as why does'
+complete -c ninecheck -n "__ninecheck_asks check explain why digest delays motion picture json try; and not __fish_seen_subcommand_from run" -l all -d 'Go on after each break'
+complete -c ninecheck -n "__ninecheck_asks check explain why digest motion json; and not __fish_seen_subcommand_from run" -l line-buffered -d 'Write each line as soon as it is complete'
+complete -c ninecheck -n '__ninecheck_asks explain json; and not __fish_seen_subcommand_from check run why' -l bytes -d 'Write each exchange with its bytes, as why does'
 complete -c ninecheck -n '__ninecheck_asks digest delays motion page json; and not __fish_seen_subcommand_from run' -l from -x -d 'Show what comes at this time or later'
 complete -c ninecheck -n '__ninecheck_asks digest delays motion page json; and not __fish_seen_subcommand_from run' -l to -x -d 'Show what comes before this time'
 complete -c ninecheck -n '__ninecheck_asks json; and not __fish_seen_subcommand_from check explain run why' -a 'check explain run why' -d 'The report that the objects are made of'

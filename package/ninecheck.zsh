@@ -61,13 +61,15 @@ local -a shown=('--from[show what comes at this time or later]:time:' '--to[show
 case $asked in
     check) options=($hands $sync $rate $sheet $all $buffered) ;;
     explain) options=($bytes $hands $sync $rate $sheet $all $buffered) ;;
-    digest | delays | motion | page | json | 'json explain') options=($bytes $hands $sync $rate $sheet $all $buffered $shown) ;;
-    'json check' | 'json why') options=($hands $sync $rate $sheet $all $buffered $shown) ;;
+    json | 'json explain') options=($bytes $hands $sync $rate $sheet $all $buffered $shown) ;;
+    digest | motion | 'json check' | 'json why') options=($hands $sync $rate $sheet $all $buffered $shown) ;;
+    delays) options=($hands $sync $rate $sheet $all $shown) ;;
+    page) options=($hands $sync $rate $sheet $shown) ;;
     why) options=($hands $sync $rate $sheet $all $buffered '--quiet[without the line that says what to ask next]') ;;
     run | 'json run') options=($hands $sync $rate $sheet) ;;
     touches) options=($sync $rate $sheet) ;;
     picture)
-        options=($hands $sync $rate $sheet $all $buffered
+        options=($hands $sync $rate $sheet $all
             '--at[the record of the break]:record:' '--width[the greatest width in pixels]:pixels:') ;;
     try) options=($all $sync $rate $sheet) ;;
     clock) options=('--seconds[write the times in seconds]') ;;

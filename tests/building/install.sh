@@ -161,13 +161,16 @@ ninecheck e|explain|explain
 ninecheck -|--help --version -V -h|--help --version -V -h
 ninecheck why -|--all --deck --hands --help --line-buffered --quiet --rate --sync -h|--all --deck --hands --help --line-buffered --quiet --rate --sync -h
 ninecheck try -|--all --deck --help --rate --sync -h|--all --deck --help --rate --sync -h
-ninecheck digest -|--all --bytes --deck --from --hands --help --line-buffered --rate --sync --to -h|--all --bytes --deck --from --hands --help --line-buffered --rate --sync --to -h
+ninecheck digest -|--all --deck --from --hands --help --line-buffered --rate --sync --to -h|--all --deck --from --hands --help --line-buffered --rate --sync --to -h
+ninecheck delays -|--all --deck --from --hands --help --rate --sync --to -h|--all --deck --from --hands --help --rate --sync --to -h
+ninecheck motion -|--all --deck --from --hands --help --line-buffered --rate --sync --to -h|--all --deck --from --hands --help --line-buffered --rate --sync --to -h
+ninecheck json -|--all --bytes --deck --from --hands --help --line-buffered --rate --sync --to -h|--all --bytes --deck --from --hands --help --line-buffered --rate --sync --to -h
 ninecheck json run -|--deck --hands --help --rate --sync -h|--deck --hands --help --rate --sync -h
 ninecheck json why -|--all --deck --from --hands --help --line-buffered --rate --sync --to -h|--all --deck --from --hands --help --line-buffered --rate --sync --to -h
 ninecheck clock --s|--seconds|--seconds
 ninecheck info -|--help --rate --sync -h|--help --rate --sync -h
-ninecheck picture -|--all --at --deck --hands --help --line-buffered --rate --sync --width -h|--all --at --deck --hands --help --line-buffered --rate --sync --width -h
-ninecheck page -|--all --bytes --deck --from --hands --help --line-buffered --rate --sync --to -h|--all --bytes --deck --from --hands --help --line-buffered --rate --sync --to -h
+ninecheck picture -|--all --at --deck --hands --help --rate --sync --width -h|--all --at --deck --hands --help --rate --sync --width -h
+ninecheck page -|--deck --from --hands --help --rate --sync --to -h|--deck --from --hands --help --rate --sync --to -h
 ninecheck convert |log saleae sigrok|log saleae sigrok
 ninecheck convert log --unit |ms us|ms us
 ninecheck check --a|--all|--all
@@ -236,13 +239,19 @@ expect 'verbs are offered' 0 'check explain run why convert split try digest del
 complete_words ninecheck run --
 expect 'options are offered' 0 '--hands --sync --rate --deck --help' ''
 complete_words ninecheck explain --
-expect 'options are offered where the judging can go on' 0 '--bytes --hands --sync --all --line-buffered --rate --deck --help' ''
+expect 'options are offered where the judging can go on' 0 '--bytes --hands --sync --rate --deck --all --line-buffered --help' ''
+complete_words ninecheck json --
+expect 'options of objects are offered' 0 '--bytes --hands --sync --rate --deck --all --line-buffered --from --to --help' ''
 complete_words ninecheck motion --
-expect 'options of what is made of a capture are offered' 0 '--bytes --hands --sync --all --line-buffered --rate --deck --from --to --help' ''
+expect 'options of what is made of a capture are offered' 0 '--hands --sync --rate --deck --all --line-buffered --from --to --help' ''
+complete_words ninecheck delays --
+expect 'options of what is written at the end are offered' 0 '--hands --sync --rate --deck --all --from --to --help' ''
+complete_words ninecheck page --
+expect 'options of a page are offered' 0 '--hands --sync --rate --deck --from --to --help' ''
 complete_words ninecheck picture --
-expect 'options of a picture are offered' 0 '--hands --sync --all --line-buffered --rate --deck --at --width --help' ''
+expect 'options of a picture are offered' 0 '--hands --sync --rate --deck --all --at --width --help' ''
 complete_words ninecheck json why --
-expect 'options of objects are offered' 0 '--hands --sync --all --line-buffered --rate --deck --from --to --help' ''
+expect 'options of objects of another report are offered' 0 '--hands --sync --rate --deck --all --line-buffered --from --to --help' ''
 complete_words ninecheck json run --
 expect 'options of a run in objects are offered' 0 '--hands --sync --rate --deck --help' ''
 complete_words ninecheck json exp

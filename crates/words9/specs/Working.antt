@@ -8,6 +8,7 @@ use Rattle.words9.specs.declared.arguments.Argument.TheVariants as argument
 abbrev pub rule_for : RateNames → Argument → Rule
 rule_for names (argument.File id help) = file_rule id.now
 rule_for names (argument.Switch name help) = switch_rule name.now
+rule_for names (argument.Unoffered name) = switch_rule name.now
 rule_for names (argument.Value id long called help) = value_rule id.now long.now
 rule_for names (argument.Values id long called help) = values_rule id.now long.now
 rule_for names (argument.Rate help) = rate_rule names

@@ -15,6 +15,9 @@ pub(crate) enum Argument<'a> {
     File(&'a str, &'a str),
     /// An option that is there or not: its long name, which is its id too, and its line of help.
     Switch(&'a str, &'a str),
+    /// An option that is there or not, and changes nothing here: its long name, which is its id too. Scripts that give each word the same
+    /// options may give it; help does not offer it.
+    Unoffered(&'a str),
     /// An option with a value.
     Value {
         /// By this its value is asked for.
@@ -84,6 +87,15 @@ const BYTES: Argument = Argument::Switch(
     "bytes",
     "Write each exchange with its bytes, as why does",
 );
+
+/// The option that goes on after a break, where judging always does.
+const ALWAYS_ALL: Argument = Argument::Unoffered("all");
+
+/// The option that tells exchanges with their bytes, where no exchange is told.
+const NO_BYTES: Argument = Argument::Unoffered("bytes");
+
+/// The option that hands each line on at once, where all is written at the end.
+const AT_THE_END: Argument = Argument::Unoffered("line-buffered");
 
 /// The option that hands each line on at once.
 const AT_ONCE: Argument = Argument::Switch(
@@ -258,14 +270,22 @@ pub(crate) fn arguments_of<'a>(verb: Verb) -> &'a [Argument<'a>]
         Verb::Check => &[CAPTURE, HANDS, SYNC, RATE, DECK, ALL, AT_ONCE],
         Verb::Why => &[CAPTURE, HANDS, SYNC, RATE, DECK, ALL, AT_ONCE, QUIET],
         Verb::Explain => &[CAPTURE, HANDS, SYNC, RATE, DECK, BYTES, ALL, AT_ONCE],
-        Verb::Digest | Verb::Delays | Verb::Motion | Verb::Json | Verb::JsonExplain | Verb::Page =>
-            &[
-                CAPTURE, HANDS, SYNC, RATE, DECK, BYTES, ALL, AT_ONCE, FROM, TO,
-            ],
+        Verb::Json | Verb::JsonExplain => &[
+            CAPTURE, HANDS, SYNC, RATE, DECK, BYTES, ALL, AT_ONCE, FROM, TO,
+        ],
+        Verb::Digest | Verb::Motion => &[
+            CAPTURE, HANDS, SYNC, RATE, DECK, NO_BYTES, ALL, AT_ONCE, FROM, TO,
+        ],
+        Verb::Delays => &[
+            CAPTURE, HANDS, SYNC, RATE, DECK, NO_BYTES, ALL, AT_THE_END, FROM, TO,
+        ],
+        Verb::Page => &[
+            CAPTURE, HANDS, SYNC, RATE, DECK, NO_BYTES, ALWAYS_ALL, AT_THE_END, FROM, TO,
+        ],
         Verb::JsonCheck | Verb::JsonWhy => &[
             CAPTURE, HANDS, SYNC, RATE, DECK, ALL, AT_ONCE, FROM, TO,
         ],
-        Verb::Picture => &[CAPTURE, HANDS, SYNC, RATE, DECK, ALL, AT_ONCE, AT, WIDTH],
+        Verb::Picture => &[CAPTURE, HANDS, SYNC, RATE, DECK, ALL, AT_THE_END, AT, WIDTH],
         Verb::Touches => &[CAPTURE, SYNC, RATE, DECK],
         Verb::Try => &[CAPTURE, SYNC, RATE, DECK, ALL],
         Verb::Info => &[CAPTURE, SYNC, RATE],

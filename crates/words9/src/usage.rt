@@ -157,6 +157,10 @@ fn arg_of<'a>(alloc: Global, argument: Argument<'a>, rates: &'a [&'a str]) -> Ar
             .long(id)
             .action(ArgAction::SetTrue)
             .help(help),
+        Argument::Unoffered(id) => Arg::new(alloc, id)
+            .long(id)
+            .action(ArgAction::SetTrue)
+            .hide(true),
         Argument::Value {
             id,
             long,
