@@ -21,6 +21,7 @@ hint_of looks.Utf16 = codes ", in UTF-16: save it as UTF-8"
 hint_of looks.Saleae = codes ", as a Saleae export has: ninecheck convert saleae makes a capture of it"
 hint_of looks.Sigrok = codes ", as sigrok-cli prints: ninecheck convert sigrok makes a capture of it"
 hint_of looks.SerialLog = codes ", as a serial log has: ninecheck convert log makes a capture of it"
+hint_of looks.LateMark = codes ", with a byte order mark that is not at the beginning of the file: take it out"
 hint_of looks.Other = codes "; ninecheck convert makes captures of exports, see docs/CAPTURE.md"
 
 -- what stands in the place of the header, and what to do about it

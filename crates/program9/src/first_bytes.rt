@@ -8,11 +8,23 @@ use std::io::{self, Read};
 /// How many of the first bytes are kept: enough for a line of an export, or for what shows its kind.
 const MOST_KEPT: usize = 64;
 
+/// The byte order mark of UTF-8. It is none where something stands before it.
+pub(crate) const MARK: &[u8] = b"\xEF\xBB\xBF";
+
 /// A reader that keeps the first bytes that it gives.
 #[derive(Drop)]
 pub(crate) struct FirstBytes<R: Read + Drop> {
     reader: R,
-    first: ArrayVec<u8, MOST_KEPT>,
+    head: Head,
+}
+
+/// The first bytes of a capture.
+#[derive(Drop)]
+struct Head {
+    /// Those from the first line on that is not empty.
+    bytes: ArrayVec<u8, MOST_KEPT>,
+    /// Whether empty lines come before them.
+    are_behind_lines: bool,
 }
 
 impl<R: Read + Drop> FirstBytes<R> {
@@ -22,13 +34,21 @@ impl<R: Read + Drop> FirstBytes<R> {
     {
         FirstBytes {
             reader,
-            first: ArrayVec::new(),
+            head: Head {
+                bytes: ArrayVec::new(),
+                are_behind_lines: false,
+            },
         }
     }
 
-    /// The first bytes that it gave, up to 64, without the ends of empty lines before them.
+    /// The first bytes that it gave, up to 64, without the ends of empty lines before them, and without a byte order mark at the very
+    /// beginning.
     pub(crate) fn as_slice(&self) -> &[u8] {
-        self.first.as_slice()
+        let bytes = self.head.bytes.as_slice();
+        match bytes.strip_prefix(MARK) {
+            Some(text) if !self.head.are_behind_lines => text,
+            _ => bytes,
+        }
     }
 }
 
@@ -37,19 +57,23 @@ impl<R: Read + Drop> Read for FirstBytes<R> {
 
     fn read(&mut self, buf: &mut [u8]) -> io::Result<usize> {
         let taken = self.reader.read(buf)?;
-        if !self.first.is_full() {
-            keep(&mut self.first, &buf[..taken]);
+        if !self.head.bytes.is_full() {
+            self.head.keep(&buf[..taken]);
         }
         Ok(taken)
     }
 }
 
-/// Keeps what there is room for, from the first line on that is not empty.
-fn keep(first: &mut ArrayVec<u8, MOST_KEPT>, bytes: &[u8]) {
-    for byte in bytes {
-        let ends_empty_line = first.is_empty() && matches!(*byte, b'\n' | b'\r');
-        if !ends_empty_line {
-            let _has_room = first.try_push(*byte);
+impl Head {
+    /// Keeps what there is room for, from the first line on that is not empty.
+    fn keep(&mut self, bytes: &[u8]) {
+        for byte in bytes {
+            let ends_empty_line = self.bytes.is_empty() && matches!(*byte, b'\n' | b'\r');
+            if ends_empty_line {
+                self.are_behind_lines = true;
+            } else {
+                let _has_room = self.bytes.try_push(*byte);
+            }
         }
     }
 }

@@ -4,6 +4,7 @@ ghost use Rattle.std.specs.Prelude.{◌≡◌, ◌<◌, length};
 ghost use Rattle.program9.specs.Header.{fault_told, header_told, hint_of, with_header};
 
 use crate::ending::{Message, Outcome};
+use crate::first_bytes::MARK;
 use capture9::{CaptureError, CaptureKind, ShownField};
 use std::fmt;
 
@@ -42,6 +43,8 @@ pub enum LooksLike {
     Sigrok,
     /// A log of a serial port.
     SerialLog,
+    /// A line that begins with a byte order mark, which is one at the beginning of the file alone.
+    LateMark,
     /// Nothing that is known.
     Other,
 }
@@ -86,7 +89,7 @@ fn fault_told(e: CaptureError, file: Option<String>, found: FoundHeader) -> Mess
     }
 }
 
-/// What stands in the place of the header of a capture that begins with these bytes.
+/// What stands in the place of the header of a capture whose text begins with these bytes: those behind the byte order mark, if it has one.
 pub(crate) fn found_in(first: &[u8]) -> FoundHeader {
     let line = first_line(first);
     FoundHeader {
@@ -97,8 +100,8 @@ pub(crate) fn found_in(first: &[u8]) -> FoundHeader {
 
 /// The first line that is not empty; an empty one where there is none.
 fn first_line(first: &[u8]) -> &[u8] {
-    let text = first.strip_prefix(b"\xEF\xBB\xBF").unwrap_or(first);
-    text.split(|byte| matches!(*byte, b'\n' | b'\r'))
+    first
+        .split(|byte| matches!(*byte, b'\n' | b'\r'))
         .find(|line| !line.is_empty())
         .unwrap_or(b"")
 }
@@ -114,6 +117,7 @@ fn looks_of(first: &[u8], line: &[u8]) -> LooksLike {
         _ if has(line, b"start_time") || has(line, b"Time [s]") => LooksLike::Saleae,
         _ if has(line, b"uart-") => LooksLike::Sigrok,
         _ if has(line, b",C,") || has(line, b",D,") => LooksLike::Rows,
+        _ if line.starts_with(MARK) => LooksLike::LateMark,
         _ if line.first().is_some_and(u8::is_ascii_digit) && line.contains(&b' ') => {
             LooksLike::SerialLog
         }
@@ -145,6 +149,9 @@ fn hint_of<'a>(looks: LooksLike) -> &'a str
         }
         LooksLike::SerialLog => {
             ", as a serial log has: ninecheck convert log makes a capture of it"
+        }
+        LooksLike::LateMark => {
+            ", with a byte order mark that is not at the beginning of the file: take it out"
         }
         LooksLike::Other => "; ninecheck convert makes captures of exports, see docs/CAPTURE.md",
     }
