@@ -398,7 +398,7 @@ long_log() {
     ! needs_make 'a log of which too many bytes are kept' || return
     bounded 65536 "$program" convert log --controller A --deck B < "$work/in" > "$work/out" 2> "$work/err"
     status=$?
-    judge 'a long log, whose bytes are kept' is_text 5 '' "$(both_lines 'out of memory')"
+    judge 'a long log, whose bytes are kept' is_text 5 '' "$(both_lines 'out of memory' export)"
 }
 
 # Streams that fail, with a short capture and with a long one. What can be said of a full device is said; of a reader that has gone

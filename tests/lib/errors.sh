@@ -2,7 +2,8 @@
 
 # both_lines LINE [FIELD [FILE [HINT]]]: the first line that is said of a capture or a stream, and the second that belongs to it;
 # nothing where nothing is said. FIELD is what the row has in the field that is wrong, as it is shown between the quotes; of a header
-# the capture's first line, with its FILE, which is standard input if left out, and the HINT after it.
+# the capture's first line, with its FILE, which is standard input if left out, and the HINT after it; where memory was refused what the
+# word keeps, which is a row if left out.
 both_lines() {
     [ -n "$1" ] || return 0
     echo "$1"
@@ -20,7 +21,14 @@ both_lines() {
         'read fault at row '*) echo 'expected a capture that can be read to its end, not a directory' ;;
         'write fault')
             echo 'standard output is full or closed; it has only the first part of the report' ;;
-        'out of memory') echo 'a row may never end, or memory is short: see ulimit -v' ;;
+        'out of memory')
+            case ${2-} in
+                exchanges) echo 'the exchanges are kept, and may be too many, or a row may never end: ninecheck split cuts a capture, or see ulimit -v' ;;
+                capture) echo 'the whole capture is kept, and may be too large: ninecheck split cuts it, or see ulimit -v' ;;
+                export) echo 'every byte of the export is kept, and it may be too large: convert a part with --from and --to, or see ulimit -v' ;;
+                line) echo 'a line may never end, or memory is short: see ulimit -v' ;;
+                *) echo 'a row may never end, or memory is short: see ulimit -v' ;;
+            esac ;;
         *) echo "no second line is known of: $1" ;;
     esac
 }

@@ -29,10 +29,10 @@ bounded() {
     )
 }
 
-# is_out_of_memory: the last run ended so. On a trial the run-time checks have lines of their own before.
+# is_out_of_memory [KEPT]: the last run ended so, of a word that keeps this. On a trial the run-time checks have lines of their own before.
 is_out_of_memory() {
     ! $on_trial || sed -i '/AddressSanitizer: soft rss limit /d' "$work/err"
-    is_text 5 '' "$(both_lines 'out of memory')"
+    is_text 5 '' "$(both_lines 'out of memory' "${1-}")"
 }
 
 # run WORDS...: the program with these words, on the standard input that it is given; its streams are left in $work/out and

@@ -97,5 +97,9 @@ while IFS='|' read -r first second; do
 done < <(sed -n '/^| First line | Second line |$/,/^$/p' docs/OUTPUT.md | grep '^| `' | grep -v 'FILE' |
     sed 's/^| `//; s/` |$//; s/` | `/|/')
 judge "rows of second lines: $rows" [ "$rows" = 9 ]
+for kept in exchanges capture export line; do
+    both_lines 'out of memory' "$kept" > "$work/out"
+    judge "the second line of a word that keeps this: $kept" grep -qF "| \`$(tail -n +2 "$work/out")\` |" docs/OUTPUT.md
+done
 
 tell_counts

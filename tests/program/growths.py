@@ -11,6 +11,8 @@ from concurrent.futures import ThreadPoolExecutor
 
 LIBRARY, PROGRAM, LIST, TRACK9_TESTS, BLOCK9_TESTS = sys.argv[1:]
 OUT_OF_MEMORY = b'out of memory\na row may never end, or memory is short: see ulimit -v\n'
+# Of words that keep the exchanges, once the capture is read.
+TOO_MANY = b'out of memory\nthe exchanges are kept, and may be too many, or a row may never end: ninecheck split cuts a capture, or see ulimit -v\n'
 # A run ends with no growth refused long before this one.
 MOST = 5000
 
@@ -39,7 +41,8 @@ def is_answer(words, right, status, out, err):
         return (out, err) == right[1:]
     if words[0] in ('run', 'why') and out and not ('--all' in words and re.search(rb'(^|\n)no at [^\n]*\n$', out)):
         return False
-    return status == 5 and err == OUT_OF_MEMORY and not re.search(b'^breaks ', out, re.M) and right[1].startswith(out)
+    is_told = err == OUT_OF_MEMORY or (words[0] in ('run', 'why') and err == TOO_MANY)
+    return status == 5 and is_told and not re.search(b'^breaks ', out, re.M) and right[1].startswith(out)
 
 
 def try_program(line):

@@ -295,6 +295,17 @@ smaller memory 24576 'kilobytes of memory for a row without end'
 bounded "$memory" "$program" check < /dev/zero > "$work/out" 2> "$work/err"
 status=$?
 judge 'a row without end' is_out_of_memory
+for words in run why 'why --all' touches page 'convert log --live --controller A --deck B'; do
+    case $words in
+        page) kept=capture ;;
+        convert*) kept=line ;;
+        *) kept=exchanges ;;
+    esac
+    # shellcheck disable=SC2086
+    bounded "$memory" "$program" $words < /dev/zero > "$work/out" 2> "$work/err"
+    status=$?
+    judge "$words: a row without end" is_out_of_memory $kept
+done
 cp examples/play.csv "$work/in"
 for verb in check run why; do
     "$program" $verb < examples/play.csv > /dev/full 2> "$work/err"

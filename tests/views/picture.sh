@@ -36,7 +36,7 @@ memory=262144
 smaller memory 24576 'kilobytes of memory for a row without end'
 bounded "$memory" "$program" picture < /dev/zero > "$work/out" 2> "$work/err"
 status=$?
-judge 'a row without end' is_out_of_memory
+judge 'a row without end' is_out_of_memory capture
 TMPDIR=$work/none run picture examples/late-reply.csv
 judge 'no folder for temporary files' eval '[ "$status" = 1 ] && cmp "$work/out" docs/pictures/late-reply.svg && [ ! -s "$work/err" ]'
 

@@ -176,7 +176,13 @@ $work/none: No such file or directory"
     # shellcheck disable=SC2086
     bounded "$memory" "$program" $words < /dev/zero > "$work/out" 2> "$work/err"
     status=$?
-    judge "$words: a row without end" is_out_of_memory
+    case $words in
+        'json run' | 'json why') kept=exchanges ;;
+        try) kept=capture ;;
+        clock) kept=line ;;
+        *) kept= ;;
+    esac
+    judge "$words: a row without end" is_out_of_memory $kept
 done
 records "$play" 40000 > "$work/long.csv"
 for word in digest json; do judge_closed_pipe $word "$work/long.csv"; done

@@ -1,5 +1,6 @@
 pub mod Again
 pub mod Header
+pub mod Want
 pub mod Word
 pub mod Text
 pub mod Opening

@@ -23,6 +23,7 @@ use Rattle.program9.specs.Opening.{no_memory, outcome_unopened}
 use Rattle.program9.specs.Outcome.{told_after}
 use Rattle.program9.specs.Sheet.{EndsOther, FindsDeck}
 use Rattle.program9.specs.Version.{TellsVersion}
+use Rattle.program9.specs.Want.{kept_by, with_want}
 
 -- what the program is given besides its words: how the captures of tasks, and the sheets that they name, are opened, and what is to
 -- come of each; and what a writer holds, where that is known
@@ -68,8 +69,8 @@ abbrev pub EndsBefore : {R S W : Type 0} → Streams R S W → Task → Outcome 
 EndsBefore streams task end = EndsOther streams.opens_sheet streams.coming_sheet task.sheets.items task.export.deck_file end ⊎ EndsOpening streams task end
 
 -- the judging of the task began, and ended; where the header is at fault, the end tells the file and what stands in the place of the
--- header: which bytes are shown of it is tested. If a write failed on the way, it failed with some kind of error, and this is the end
--- then. No contract of a writer says when it fails, and how
+-- header: which bytes are shown of it is tested; and where memory was refused, it tells what the word keeps. If a write failed on the way,
+-- it failed with some kind of error, and this is the end then. No contract of a writer says when it fails, and how
 pub record EndsJudging {R S W : Type 0} (makes : Promise) (streams : Streams R S W) (task : Task) (out : W) (end : Outcome) (now : Option (List ℕ)) : Type 0 where
   pub reader : R
   pub buffer : Buffered W
@@ -79,7 +80,7 @@ pub record EndsJudging {R S W : Type 0} (makes : Promise) (streams : Streams R S
   pub is_judged : EndsJudged makes job.asked.report job (streams.coming reader) (streams.contents out) judged now
   pub found : FoundHeader
   pub failed : Option ErrorKind
-  pub ends : end ≡ told_after failed (with_header task.file found judged)
+  pub ends : end ≡ told_after failed (with_want (kept_by task.asked.report task.export.live) (with_header task.file found judged))
 
 -- the task was carried out, and this is the end: it ended before its judging, and nothing is written; or its judging ended
 abbrev pub EndsTask : {R S W : Type 0} → Promise → Streams R S W → Task → W → Outcome → Option (List ℕ) → Type 0

@@ -10,6 +10,7 @@ use Rattle.program9.specs.declared.ending.ClashingSheets.{ClashingSheets}
 use Rattle.program9.specs.declared.ending.Message.{Message}
 use Rattle.program9.specs.declared.ending.Message.TheVariants as message
 use Rattle.program9.specs.Header.{header_found}
+use Rattle.program9.specs.Want.{advice_of}
 use Rattle.program9.specs.Word.{expected_of, file_name_of, first_line_of, notice_text, reason_of, refuser_word, word_of}
 
 -- what a bad row has in the field that is wrong, after what was expected there
@@ -41,3 +42,4 @@ text_of (message.CannotOpenSheet u) = codes "cannot open\n" ++ file_name_of u.fi
 text_of message.TextFault = codes "read fault\nthe text can't be read to its end"
 text_of message.WriteFault = codes "write fault\nstandard output is full or closed; it has only the first part of the report"
 text_of message.NoMemory = codes "out of memory\na row may never end, or memory is short: see ulimit -v"
+text_of (message.TooLarge kept) = codes "out of memory\n" ++ advice_of kept

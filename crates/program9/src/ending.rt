@@ -1,6 +1,7 @@
 //! How the program ends: its status, and what it says on standard error.
 
 use crate::no_header::NoHeader;
+use crate::want::Kept;
 use capture9::CaptureError;
 use clap::Error;
 use seen9::WhyNothing;
@@ -42,6 +43,8 @@ pub enum Message {
     WriteFault,
     /// A growth of memory was refused.
     NoMemory,
+    /// It was refused to a word that keeps this, which may be too large.
+    TooLarge(Kept),
 }
 
 /// A file whose text is no deck sheet.

@@ -18,6 +18,7 @@ mod sheet;
 mod shipped;
 mod status;
 mod version;
+mod want;
 
 pub use again::{Again, Followed, Keeping, read_whole, text_again};
 pub use buffered::Buffered;
@@ -30,3 +31,4 @@ pub use message::word_of;
 pub use no_header::{FoundHeader, LooksLike, NoHeader};
 pub use program::run_program;
 pub use status::{outcome, outcome_in_parts, outcome_refused};
+pub use want::Kept;

@@ -3,6 +3,7 @@ ghost use Rattle.std.specs.Prelude.{◌≡◌};
 ghost use Rattle.program9.specs.Word.{expected_of, file_name_of, first_line_of, notice_text, reason_of, refuser_word, word_of};
 
 use crate::ending::{ClashingSheets, Message, Notice, Refuser, WhyUnopened};
+use crate::want::advice_of;
 use capture9::{CaptureKind, MOST_ROWS};
 use seen9::WhyNothing;
 use std::fmt;
@@ -93,6 +94,10 @@ impl fmt::Display for Message {
                 f,
                 "out of memory\na row may never end, or memory is short: see ulimit -v"
             ),
+            Message::TooLarge(kept) => {
+                let advice = advice_of(*kept);
+                write!(f, "out of memory\n{advice}")
+            }
         }
     }
 }

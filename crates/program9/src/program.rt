@@ -14,6 +14,7 @@ use crate::maker::Maker;
 use crate::no_header::{found_in, with_header};
 use crate::sheet::{Other, read_other};
 use crate::version::tell_version;
+use crate::want::{kept_by, with_want};
 use deck9::Profile;
 use std::alloc::Global;
 use std::io::{self, Read, Write};
@@ -53,7 +54,8 @@ struct Begun<R: Read + Drop, W: Write + Drop> {
 /// * status 4 with `CannotOpen`, the file and the reason where `opener` failed: nothing is written;
 /// * status 0 where the words ask for the version: its line is written; or status 4 with `WriteFault`, and a first part of
 ///   it;
-/// * status 5 with `NoMemory` where a growth of memory is refused.
+/// * status 5 with `NoMemory` where a growth of memory is refused; or with `TooLarge` and what the word keeps, where it keeps more than a
+///   row.
 pub fn run_program<
     G: Fn(&String) -> io::Result<S>,
     S: Read + Drop,
@@ -124,10 +126,11 @@ fn carry_out<
                 job,
                 named,
             } = begun;
+            let kept = kept_by(job.asked.report, named.export.live);
             let mut reader = FirstBytes::of(reader);
             let judged = judge_and_flush(alloc, &mut reader, &mut out, job, &named, maker);
-            let judged = with_header(judged, named.file, found_in(reader.as_slice()));
-            taken_back(out, judged)
+            let told = with_header(judged, named.file, found_in(reader.as_slice()));
+            taken_back(out, with_want(told, kept))
         }
         Err(ended) => ended,
     }
@@ -152,6 +155,7 @@ fn begin<
     requires capture { F.IsAlwaysCallable opener }
     ensures begins { IfOk result (λ b. Begins (record { opens = FnOnceReturnsAt F.FnOnce opener; coming = R.remaining; opens_sheet = FnReturnsAt G.Fn sheet_opener; coming_sheet = S.remaining; contents = W.contents }) task out b.reader b.out b.job) }
     ensures file { IfOk result (λ b. b.named.file ≡ task.file) }
+    ensures live { IfOk result (λ b. b.named.export.live ≡ task.export.live) }
     ensures ends { IfErr result (λ e. EndsBefore (record { opens = FnOnceReturnsAt F.FnOnce opener; coming = R.remaining; opens_sheet = FnReturnsAt G.Fn sheet_opener; coming_sheet = S.remaining; contents = W.contents }) task e.0) }
     ensures untouched { IfErr result (λ e. e.1 ≡ out) }
 {
