@@ -163,12 +163,48 @@ words() {
 # lacks_controls FILE: it has no control character but line feeds.
 lacks_controls() { ! LC_ALL=C grep -q $'[\x01-\x09\x0b-\x1f\x7f]\|\xc2[\x80-\x9f]' "$1"; }
 
-# What the capture says of itself stands above all, and the reasons that it puts in doubt say so.
+# drifting: a hundred commands, whose replies come 600 microseconds after the first and 100 later each time, up to 10.5 ms.
+drifting() {
+    local k
+    for ((k = 0; k < 100; k++)); do echo "C +30000 20 01 21 D +$((600 + 100 * k)) 10 01 11"; done
+}
+
+# What the capture says of itself stands above all. The reasons that it puts in doubt say so, and the breaks name what blames the tap or
+# the wires. Each sign, with what its reasons say, and whether it is named.
 signs() {
-    page_of 'D 20 01 21 C 10 01 11'
-    has 'swapped wires' '<b>Look at the capture first:</b>' \
-        "<li>the wires are swapped, at record 1: blocks of a deck on the controller's wire: 1, of a controller on the deck's: 1; swap C and D before anything is judged</li>" \
-        'In doubt: the two wires seem to be swapped. Swap them before any of this is believed.'
+    local sign doubt is_named records late
+    local suspicion='<p><b>Suspect the tap first:</b>' rest='What that means stands at the head of the page.</p>'
+    while IFS='|' read -r sign doubt is_named records; do
+        page_of "$(eval "echo \"$records\"")"
+        has "$sign, on a page" '<b>Look at the capture first:</b>' "<li>$sign, at record " "$doubt"
+        if [ "$is_named" = named ]; then
+            has "$sign, among the breaks" "$suspicion $sign. $rest"
+        else
+            lacks "$sign, among the breaks" "$suspicion"
+        fi
+    done <<'END'
+the wires are swapped|In doubt: the two wires seem to be swapped. Swap them before any of this is believed.|named|D 20 01 21 C 10 01 11
+begins inside traffic|In doubt within the first five records: the capture begins inside traffic. Ask again with <code>--sync</code>.|named|D 10 01 11 $play
+an echo|In doubt: what one wire carries comes on the other too. Take the second copy out before any of this is believed.|named|$(repeated 2 "C 20 D +10 20 C 01 D +10 01 C 21 D +10 21 10 01 11")
+a hole in both wires|In doubt at a hole: for a time the logger wrote nothing, and a break there is nobody's.|named|$play C 61 20 D +70000 01 92 $play
+the tap collects bytes|In doubt: the tap collects bytes before it stamps them, so its times are not those of the line.|named|$(repeated 3 "C +20000 20 +100 01 +100 21 D +9400 10 +100 01 +100 11")
+a byte written twice|In doubt: bytes come closer than a line carries them, so the logger made them, and a break there is not the sender's.|named|$play C 20 +40 20 +360 01 21 $ack
+bytes too close|In doubt: bytes come closer than a line carries them, so the logger made them, and a break there is not the sender's.|named|$play C 20 01 +100 22
+coarse times|In doubt where the time is near its limit: all times of the capture come in coarse steps.|named|C 20 +1000 01 +1000 21 D +10000 10 +1000 01 +1000 11
+two clocks|In doubt: the two wires do not share a clock, so a time from the one to the other says nothing.|named|$(drifting)
+lost bytes|In doubt: the tap or the line lost a byte, and a break there is not the sender's.|named|$play C 20 21 $ack
+rate|In doubt: the times fit another frame rate: what to look at first, above, says which.|not|C 61 0C 01 6E D 74 04 29 00 00 10 B1
+replies one command behind|In doubt: replies fit the command before theirs. One was lost or is one too many, and this follows from it.|not|$(repeated 4 "C 61 20 01 82 D 74 04 00 00 00 10 88 C 61 0C 01 6E D 71 20 00 91")
+silence|In doubt: for a time the deck was silent, off or out of reach. That is one fault, and not one a command.|not|$play $(repeated 2 "C 20 01 21 +100000") C 20 01 21
+a block sent short|The same block comes a byte short most times, so its sender is at fault, and not the tap.|not|$play $(repeated 3 "C 61 20 01 82 D 71 20 92") $play
+END
+    # Two signs are named in one line. One that bears on no reason that came up is not: a second reply, in steps of a millisecond.
+    late="C +1000 20 +1000 01 +1000 21 D +10000 10 +1000 01 +1000 11"
+    page_of "$late C +1000 20 +1000 21 D +1000 10 +1000 01 +1000 11"
+    has 'two signs' "$suspicion coarse times, lost bytes. $rest"
+    page_of "C +1000 20 +1000 01 +1000 21 D +1000 10 +1000 01 +1000 11 +1000 10"
+    has 'a sign of other reasons' '<li>coarse times, at record 1: '
+    lacks 'a sign of other reasons' "$suspicion" 'In doubt'
     page_of "$play"
     lacks 'no sign' 'Look at the capture first' 'In doubt'
 }

@@ -141,10 +141,9 @@ advice() {
     done <<'END'
 $play|No record breaks a rule.
 $play D 10|
-D 10|Suspect the tap first: the capture begins inside a reply or a command, or its two wires are swapped. Ask again with --sync.
-C 74|Suspect the tap first: the capture begins inside a reply or a command, or its two wires are swapped. Ask again with --sync.
-C 61 20 +10400 01 82|Suspect the tap first: only times break the rules here, and an adapter that collects bytes gives them wrong times.
-$late $late|Suspect the tap first: only times break the rules here, and an adapter that collects bytes gives them wrong times. After a late reply everything known of the deck stays known.
+D 10|Suspect the tap first: begins inside traffic. What that means stands at the head of the page.
+C 61 20 +10400 01 82|
+$late $late|After a late reply everything known of the deck stays known.
 $play D 10 $play D 10|The number of breaks is not the number of faults: one lost byte can break two parts. After a break nothing is known of the deck until it is asked again.
 $late D 10|The number of breaks is not the number of faults: one lost byte can break two parts. After a break, unless it is a late reply, nothing is known of the deck until it is asked again.
 END

@@ -140,6 +140,27 @@ impl Sign {
 }
 
 impl Seeming {
+    /// Whether it blames the tap, the logger or the wires for what breaks there. A block that is sent short is its sender's, and another
+    /// rate is nobody's; where a deck is silent, or replies come one command behind, the capture does not tell who is at fault.
+    pub fn blames_tap(&self) -> bool {
+        match self {
+            Seeming::WiresSwapped { .. }
+            | Seeming::BeginsInside
+            | Seeming::Echo(_)
+            | Seeming::Hole { .. }
+            | Seeming::CollectsBytes { .. }
+            | Seeming::WrittenTwice { .. }
+            | Seeming::CloseBytes { .. }
+            | Seeming::CoarseTimes { .. }
+            | Seeming::TwoClocks { .. }
+            | Seeming::LostBytes { .. } => true,
+            Seeming::WrongRate { .. }
+            | Seeming::OneBehind { .. }
+            | Seeming::Silence { .. }
+            | Seeming::SentShort(_) => false,
+        }
+    }
+
     /// What it is called, and what it means or what to do about it.
     pub fn words(&self) -> (&'static str, &'static str) {
         match self {

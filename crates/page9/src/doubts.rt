@@ -1,4 +1,5 @@
-//! Which reasons are in doubt: a sign of the capture says that something else than the deck or the controller may be at fault.
+//! Which reasons are in doubt: a sign of the capture says that something else than the deck or the controller may be at fault. The signs
+//! alone say so. Which reasons come up does not: late replies alone are those of a tap or of a deck.
 
 use block9::Reason;
 use info9::{MOST_SIGNS, Seeming, Sign};
@@ -15,6 +16,11 @@ impl Doubts {
         Doubts { signs: *signs }
     }
 
+    /// The signs.
+    pub(crate) fn signs(&self) -> &[Option<Sign>] {
+        &self.signs
+    }
+
     /// What puts a reason in doubt, as a sentence of the page: by the first sign that does.
     pub(crate) fn sentence(&self, reason: Reason) -> Option<&'static str> {
         for sign in self.signs {
@@ -27,8 +33,8 @@ impl Doubts {
     }
 }
 
-/// The sentence of a sign, where it puts this reason in doubt.
-fn doubt_by(what: &Seeming, reason: Reason) -> Option<&'static str> {
+/// The sentence of a sign, where it puts this reason in doubt, or says who is at fault.
+pub(crate) fn doubt_by(what: &Seeming, reason: Reason) -> Option<&'static str> {
     let (is_doubted, sentence) = match what {
         Seeming::WiresSwapped { .. } => (
             true,
@@ -76,7 +82,7 @@ fn doubt_by(what: &Seeming, reason: Reason) -> Option<&'static str> {
         ),
         Seeming::SentShort(_) => (
             is_of_lost_byte(reason),
-            "In doubt: the same block comes a byte short most times, so its sender is at fault. <code>ninecheck info</code> names it.",
+            "The same block comes a byte short most times, so its sender is at fault, and not the tap. <code>ninecheck info</code> names it.",
         ),
         Seeming::LostBytes { .. } => (
             is_of_lost_byte(reason),

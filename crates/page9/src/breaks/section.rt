@@ -14,7 +14,7 @@ impl Breaks<'_> {
             self.put_none(html);
         } else {
             self.reasons.put(html, doubts)?;
-            self.put_advice(html);
+            self.put_advice(html, doubts);
             self.put_entries(html);
             self.put_unlisted(html, again);
         }
@@ -34,18 +34,8 @@ impl Breaks<'_> {
     }
 
     /// Puts what to look at first, and what to think of several breaks.
-    fn put_advice(&self, html: &mut Markup) {
-        if self.begins_inside() {
-            html.put_mark(
-                "<p><b>Suspect the tap first:</b> the capture begins inside a reply or a command, or its two wires are swapped. \
-                Ask again with <code>--sync</code>.</p>\n",
-            );
-        } else if self.reasons.is_timing() {
-            html.put_mark(
-                "<p><b>Suspect the tap first:</b> only times break the rules here, and an adapter that collects bytes \
-                gives them wrong times.</p>\n",
-            );
-        }
+    fn put_advice(&self, html: &mut Markup, doubts: &Doubts) {
+        self.put_suspicion(html, doubts);
         if self.count > 1 {
             html.put_mark("<p>");
             self.put_what_follows(html);
@@ -53,16 +43,30 @@ impl Breaks<'_> {
         }
     }
 
-    /// Whether the first record breaks a rule as where a capture begins inside traffic.
-    fn begins_inside(&self) -> bool {
-        let Some(first) = self.first() else {
-            return false;
-        };
-        let is_inside = matches!(
-            first.reason,
-            Reason::ReplyWithoutCommand | Reason::WrongGroup
-        );
-        first.at == 1 && is_inside
+    /// Puts the signs that blame the tap or the wires, of those that bear on a break; nothing where there is none.
+    fn put_suspicion(&self, html: &mut Markup, doubts: &Doubts) {
+        let mut is_begun = false;
+        for sign in doubts.signs() {
+            let Some(sign) = sign else {
+                continue;
+            };
+            if !sign.what.blames_tap() || !self.reasons.has_one_doubted_by(sign) {
+                continue;
+            }
+            let (name, _) = sign.what.words();
+            html.put_mark(if is_begun {
+                ", "
+            } else {
+                "<p><b>Suspect the tap first:</b> "
+            });
+            html.put_mark(name);
+            is_begun = true;
+        }
+        html.put_mark(if is_begun {
+            ". What that means stands at the head of the page.</p>\n"
+        } else {
+            ""
+        });
     }
 
     /// Puts what to think of several breaks. A late reply ends nothing.
