@@ -74,28 +74,13 @@ function stop(before) {
     poll_modes("STOP", 1 + draw(2))
 }
 
-function play() {
-    acknowledged("20 01")
+# A command, modes that the deck may show on the way to its own, that one, and STOP.
+function go(command, way, mode) {
+    acknowledged(command)
     loses = 0
-    poll_modes("STOP", draw(2))
-    poll_modes("PLAY", 1 + draw(3))
-    stop("PLAY")
-}
-
-function record() {
-    acknowledged("20 02")
-    loses = 0
-    poll_modes("PLAY", draw(2))
-    poll_modes("REC", 1 + draw(3))
-    stop("REC")
-}
-
-function cue() {
-    acknowledged("24 31 " drawn_time())
-    loses = 0
-    poll_modes(one_of("SHUTTLE JOG FF"), draw(3))
-    poll_modes("CUED", 1 + draw(2))
-    stop("CUED")
+    poll_modes(way, draw(3))
+    poll_modes(mode, 1 + draw(3))
+    stop(mode)
 }
 
 # The deck clears the points at some time, or keeps them.
@@ -165,7 +150,7 @@ function draw_session(number,    times, plants_at, k) {
     send("61 20 01", "71 20 00")
     if (draw(2)) poll_modes(one_of("CUED JOG PLAY REC SHUTTLE"), 1 + draw(2))
     stop(one_of("CUED JOG PLAY REC SHUTTLE"))
-    if (draw(2)) play()
+    if (draw(2)) go("20 01", "STOP", "PLAY")
     preset("in")
     if (draw(2)) preset("out")
     else acknowledged("40 21")
@@ -181,9 +166,9 @@ function draw_session(number,    times, plants_at, k) {
 function happen(kind) {
     if (kind < 3) edit(one_of("20/40 20/41 20/42 20/43"))
     else if (kind < 5) eject()
-    else if (kind < 6) play()
-    else if (kind < 7) record()
-    else if (kind < 8) cue()
+    else if (kind < 6) go("20 01", "STOP", "PLAY")
+    else if (kind < 7) go("20 02", "PLAY", "REC")
+    else if (kind < 8) go("24 31 " drawn_time(), one_of("SHUTTLE JOG FF"), "CUED")
     else preset(one_of("in out"))
     if (kind < 5) return
     poll_registers()
