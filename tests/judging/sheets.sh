@@ -525,7 +525,7 @@ sheet limits '[names]' '"20 6a" = "ABCDEFGHIJKLMNOPQRSTUVWX"' '"20 6B" = "A"' '"
 for name in inline other long limits; do ends "check --deck $work/$name.toml" 1 "$no"; done
 ends "check --deck decks/nine-pin-commands.toml" 1 "$no"
 
-# After EDIT ON a deck that plays shows REC, and after EDIT OFF it shows PLAY again: with the shipped sheet it may.
+# After EDIT ON a deck that plays shows REC, and after EDIT OFF it shows PLAY again: with the sheet 9pin it may.
 plays='C 61 20 03 84 D 73 20 00 01 00 94'
 edit_on="C 20 65 85 $ack"
 edit_off="C 20 64 84 $ack"
@@ -617,8 +617,8 @@ done
 waits_for 1 check --deck "$work/ee.toml"
 judge 'with a sheet that is one it waits for the capture' [ "$status" = 124 -a ! -s "$work/out" ]
 
-# ---- The shipped sheet names each command as the profile's page does, with its replies and what is forgotten.
-judge 'the shipped sheet and the page say the same is forgotten' cmp -s \
+# ---- The sheet 9pin names each command as the profile's page does, with its replies and what is forgotten.
+judge 'the sheet 9pin and the page say the same is forgotten' cmp -s \
     <(sed -n 's/^| `\([0-9A-F ]*\)` | [A-Z0-9 +/-]* | [a-z ]* | `"\([a-z]*\)"` |.*$/"\1" = "\2"/p' docs/PROFILE.md) \
     <(sed -n 's/^\("[0-9A-F ]*" = "[a-z]*"\) .*/\1/p' decks/nine-pin-commands.toml)
 judge 'and the same goals' cmp -s \

@@ -24,7 +24,7 @@ is_told() {
     judge "$command: $1" grep -q "$2" <(tail -n 2 "$work/out" | head -n 1)
 }
 
-# in_sheet TABLE FORM: this table of the shipped sheet has a line of this form.
+# in_sheet TABLE FORM: this table of the sheet 9pin has a line of this form.
 in_sheet() { sed -n "/^\[$1\]/,/^\[/p" decks/nine-pin-commands.toml | grep -q "$2"; }
 
 # not_in_sheet TABLE COMMAND: it has no line for this command.
@@ -55,9 +55,9 @@ while IFS='|' read -r command name forgets sheet replies; do
     esac
     blocks "$known,C $command$data,D 10 01,$recording" | "$program" check > "$work/out" 2>&1
     case $sheet in
-        'not named') judge "$command: the shipped sheet does not say what is forgotten" not_in_sheet forgets "$command" ;;
-        '['*) judge "$command: the shipped sheet's goals" in_sheet goals "^\"$command\" = \\$sheet  *# $name\$" ;;
-        *) judge "$command: the shipped sheet's word" in_sheet forgets "^\"$command\" = $sheet  *# $name\$" ;;
+        'not named') judge "$command: the sheet 9pin does not say what is forgotten" not_in_sheet forgets "$command" ;;
+        '['*) judge "$command: the sheet 9pin's goals" in_sheet goals "^\"$command\" = \\$sheet  *# $name\$" ;;
+        *) judge "$command: the sheet 9pin's word" in_sheet forgets "^\"$command\" = $sheet  *# $name\$" ;;
     esac
     # With the sheet it has its name, takes its replies and a NAK, and no other reply.
     IFS=',' read -ra forms <<< "$replies"
