@@ -43,7 +43,7 @@ run_script() {
 export -f run_script log_of
 # Those that take long begin first.
 slow=' tests/program/long.sh tests/program/faults.sh tests/judging/all.sh tests/judging/drawn.sh tests/program/growths.sh tests/judging/sync.sh '
-slow+='tests/cases/cases.sh tests/web/answers.sh tests/web/browser.sh tests/views/page.sh tests/views/view.sh '
+slow+='tests/cases/cases.sh tests/web/answers.sh tests/web/browser.sh tests/views/page.sh tests/views/view.sh tests/views/advice.sh '
 for script in "${scripts[@]}"; do
     case $slow in *" $script "*) echo "1 $script" ;; *) echo "2 $script" ;; esac
 done | sort -s -n | cut -d ' ' -f 2- | xargs -P "$(nproc)" -I {} bash -c 'run_script {}'

@@ -15,7 +15,8 @@ from sessions import ASKED, MODES, RATES, HonestDeck, exchange, rows_of, session
 REPLY_LIMIT_US, BYTE_GAP_US = 9287, 10287
 NAK = block(1, 0x12, 0x01)
 REMOTE = block(6, 0x20, 0x01), block(7, 0x20, 0x00)
-STOP, PLAY, EJECT, AUTO_EDIT, VAR = (block(2, 0x00), ACK), (block(2, 0x01), ACK), (block(2, 0x0F), ACK), (block(2, 0x42), ACK), (block(2, 0x12, 0x20), ACK)
+STOP, PLAY, EJECT, AUTO_EDIT = [(block(2, code), ACK) for code in (0x00, 0x01, 0x0F, 0x42)]
+VAR = block(2, 0x12, 0x20), ACK
 
 # ---- What is judged, by the rules of turns, times and sums alone.
 
@@ -198,13 +199,14 @@ def told_frame(sent):
     bytes_sent = [byte for _, _, byte in sent]
     return int(f'{bytes_sent[6] & 0x3F:X}') if bytes_sent[:2] == [0x61, 0x0C] else 0
 
-FAULTS = {'clocks': clocks, 'short': short, 'edit': edit, 'preset': wrong_preset, 'echo': echo, 'hole': silent_hole, 'doubled': doubled, 'late': late,
-          'unanswered': unanswered, 'disobeyed': disobeyed, 'ejected': ejected, 'jog': jog, 'refused': refused, 'rate': other_rate}
+FAULTS = {'clocks': clocks, 'short': short, 'edit': edit, 'preset': wrong_preset, 'echo': echo, 'hole': silent_hole, 'doubled': doubled,
+          'late': late, 'unanswered': unanswered, 'disobeyed': disobeyed, 'ejected': ejected, 'jog': jog, 'refused': refused,
+          'rate': other_rate}
 
 # ---- What is written.
 
-# An export of sigrok at 2,000,000 samples a second, in which one byte is damaged: the words that leave out all before the next exchange, the
-# verdict then, and what is said of the byte.
+# An export of sigrok at 2,000,000 samples a second, in which one byte is damaged: the words that leave out all before the next exchange,
+# the verdict then, and what is said of the byte.
 def write_export(path, draw):
     exchanges, _ = honest_session(draw, most=300)
     place = draw.randrange(len(exchanges) - 1)

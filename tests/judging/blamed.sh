@@ -52,8 +52,8 @@ disobeyed|why|
 refused|why|
 rate|why|next: [0-9:]* is not valid at --rate 25: the last frame is 24; it is valid at --rate 30 and --rate 29.97df'
 
-# The same once `why` and `try` ask with the sheets of the program and give one advice: RECORD is that of the first byte of the command. Then
-# they go into the table above, and the last line of it with the rate goes.
+# The same once `why` and `try` ask with the sheets of the program and give one advice: RECORD is that of the first byte of the command.
+# They go into the table above then, and the last line of that, of the rate, goes.
 tries_sheets=false
 advice_of_sheets='edit|why|next: yes with --deck 9pin (AUTO EDIT at record RECORD)
 edit|try|yes with .*--deck 9pin
@@ -108,7 +108,8 @@ judge_page() {
     ask page $words "$capture"
     judge "$name: the head of its page" grep -qx "$head" "$work/out"
     judge "$name: what was not obeyed" [ "$(sed -n 's,^<p class="lead"><a href="#look">\(.*\)</a>.*,\1,p' "$work/out")" = "$obeyed" ]
-    judge "$name: the signs of its page" [ "$(sed -n '/Look at the capture first/,/<\/ul>/s/^<li>\(.*\), at record .*/\1/p' "$work/out")" = "$sign" ]
+    sed -n '/Look at the capture first/,/<\/ul>/s/^<li>\(.*\), at record .*/\1/p' "$work/out" > "$work/signs"
+    judge "$name: the signs of its page" [ "$(cat "$work/signs")" = "$sign" ]
     $suspects_by_signs || return
     case " $not_suspected " in *" $fault "*) judge "$name: the tap is not suspected" eval '! grep -q "Suspect the tap" "$work/out"' ;; esac
 }

@@ -1,6 +1,6 @@
-// node stretches.js FOLDER: pages of stretches of captures that break, as a person reads them in chromium. Of each line of FOLDER/asked, which
-// is the name of a page, how many breaks its capture has, and the words that it was made with, the page is FOLDER/NAME.html. The last line is
-// 'N passed, M failed'.
+// node stretches.js FOLDER: pages of stretches of captures that break, as a person reads them in chromium. A line of FOLDER/asked has the name
+// of a page, how many breaks its capture has, and the words that it was made with; the page is FOLDER/NAME.html. The last line is 'N passed, M
+// failed'.
 'use strict';
 const fs = require('fs');
 const path = require('path');
@@ -9,7 +9,7 @@ const { judge, tell_counts } = require('../web/asking.js');
 
 const [, , folder] = process.argv;
 // What says that the whole capture keeps the rules.
-const ACQUITS = /keeps? the rules|can have given these replies|no record breaks a rule\.|nobody is to blame/i;
+const ACQUITS = /keeps? the rules|can have given these replies|no record breaks a rule\./i;
 const COUNTED = /^([\d,]+) breaks?(?: in this stretch, ([\d,]+) outside of it)?$/;
 const number_of = text => Number((text || '0').replace(/,/g, ''));
 
@@ -31,9 +31,10 @@ async function judge_page(browser, line) {
     const { title, heading, text } = await read_page(browser, name);
     const counted = COUNTED.exec(heading);
     const told = `${name} ${words.join(' ')}`;
-    judge(`${told}: its heading counts all ${breaks} breaks`, counted && number_of(counted[1]) + number_of(counted[2]) === Number(breaks), heading);
+    const total = counted ? number_of(counted[1]) + number_of(counted[2]) : 0;
+    judge(`${told}: its heading counts all ${breaks} breaks`, total === Number(breaks), heading);
     judge(`${told}: its title says the same`, title.startsWith(`${heading}: `), title);
-    judge(`${told}: nothing says that the capture keeps the rules`, !ACQUITS.test(text), (ACQUITS.exec(text) || { input: '' }).input);
+    judge(`${told}: nothing says that the capture keeps the rules`, !ACQUITS.test(text), (ACQUITS.exec(text) || [''])[0]);
 }
 
 async function main() {

@@ -1,7 +1,7 @@
 #!/usr/bin/env bash
-# A page of a stretch of a capture that breaks a rule never says that the capture keeps the rules, wherever the stretch lies: of drawn captures
-# with faults, each page as a person reads it in chromium. stretches.sh [PAGES]: the gate takes 20, and 500 take some minutes. The last line is
-# 'N passed, M failed'.
+# A page of a stretch of a capture that breaks a rule never says that the capture keeps the rules, wherever the stretch lies: of drawn
+# captures with faults, each page as a person reads it in chromium. stretches.sh [PAGES]: the gate takes 20. The last line is 'N passed, M
+# failed'.
 set -u
 cd "$(dirname "$0")/../.." || exit 1
 . tests/lib/tools.sh
