@@ -8,6 +8,7 @@ BEGIN { seed = 30103 }
     read_times($0)
     lasts = last - first + 1
     begins = first - int(lasts / 4) + draw(int(lasts * 3 / 2))
+    if (begins < 0) begins = 0
     ends = begins + 1 + draw(int(lasts / (1 + draw(8))))
     kind = draw(4)
     words = one_of("none none none --hands --sync")
@@ -24,4 +25,4 @@ function read_times(file,    row, part, count) {
     close(file)
 }
 
-function seconds(us) { return sprintf("%.6f", (us > 0 ? us : 0) / 1000000) }
+function seconds(us) { return sprintf("%.6f", us / 1000000) }
