@@ -126,7 +126,8 @@ class Habits:
         self.each_time = runs or draw.random() < 0.5
         self.phase = draw.choice(['locked', 'free'])
 
-# A session: exchanges of bytes with their times, [(time_us, wire, byte), ..] each. What is given of its habits is not drawn.
+# A session: exchanges of bytes with their times, [(time_us, wire, byte), ..] each. What is given of its habits
+# takes the place of what is drawn.
 def session(draw, rate, runs=False, pause=500, deck_of=Deck, **given):
     deck = deck_of(draw, rate)
     habits = Habits(draw, rate, runs)

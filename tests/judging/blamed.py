@@ -4,8 +4,8 @@
 #                                     with a damaged byte as FOLDER/export-NUMBER.txt. Every run draws the same.
 #
 # A line is written for each, its parts between bars: the name, the words that it is asked with, the verdict that it has to have, and the
-# record of the command that the deck had of its own way with. Of an export these are the words that leave the damaged byte out, the verdict
-# then, and what is said of the byte without them.
+# first record of the command that a sheet has to speak of, where one has. Of an export these are the words that leave the damaged byte out,
+# the verdict then, and what is said of the byte without them.
 import os, random, sys
 sys.path.insert(0, os.path.join(os.path.dirname(os.path.abspath(__file__)), '..', '..', 'bench', 'lib'))
 from blocks import ACK, bcd, block
@@ -81,7 +81,7 @@ def polls(draw, mode, *registers):
 def preset(register, *time):
     return block(4, 0x14 + register, *time), ACK
 
-# ---- The faults. Each has its exchanges or rows, the rate that it is asked with, the verdict, and the record of such a command.
+# ---- The faults. Each has its exchanges or rows, the rate that it is asked with, the verdict, and the record of the command.
 
 def honest(draw):
     exchanges, rate = honest_session(draw)

@@ -52,7 +52,7 @@ disobeyed|why|
 refused|why|
 rate|why|next: [0-9:]* is not valid at --rate 25: the last frame is 24; it is valid at --rate 30 and --rate 29.97df'
 
-# The same once `why` and `try` ask with the sheets of the program and give one advice: RECORD is that of the first byte of the command.
+# The same once `why` and `try` ask with the sheets of the program and give one advice: RECORD is the first of the command.
 # They go into the table above then, and the last line of that, of the rate, goes.
 tries_sheets=false
 advice_of_sheets='edit|why|next: yes with --deck 9pin (AUTO EDIT at record RECORD)

@@ -6,7 +6,6 @@
 # A line that names a command or an option, and has none of the forms below, has failed. The last line is 'N passed, M failed'.
 import collections, glob, html, os, re, shlex, subprocess, sys
 
-
 program, folder, *sheets = sys.argv[1:]
 counts = collections.Counter()
 # How often each form came.
@@ -43,8 +42,7 @@ def at_rate(words, rate):
 # The words of the terms that are a yes, in which `--deck` alone stands for all sheets that were given.
 def makes_a_yes(found, words, capture):
     for terms in re.split(', or with ', re.sub(r' \(.*\)$', '', found[1])):
-        options = shlex.split(re.sub(r'--deck(?= --|$)', ' '.join(named_sheets()), terms))
-        status, told = verdicts(options, capture)
+        status, told = verdicts(shlex.split(re.sub(r'--deck(?= --|$)|beside your own', ' '.join(named_sheets()), terms)), capture)
         judge(f'{capture} {words}: a yes with {terms}', status == 0 and told[-1].startswith('yes: '), *told)
 
 def named_sheets():
@@ -64,9 +62,10 @@ def keeps_the_rules(found, words, capture):
     breaks = [line for line in told if line.startswith(f'no at record {found[1]}: ')]
     judge(f'{capture} {words}: record {found[1]} with {options}', not breaks, *breaks)
 
+# Of a frame rate that is without a hand.
 def nothing_is_a_yes(found, words, capture):
-    told = ask('try', *words, capture)
-    judge(f'{capture} {words}: nothing makes it a yes', told.returncode == 1 and b': yes: ' not in told.stdout, told.stdout.decode())
+    told = [line for line in lines_of(ask('try', *words, capture).stdout) if found[1] != 'other frame rate' or '--hands' not in line]
+    judge(f'{capture} {words}: nothing makes it a yes', told and not any(': yes: ' in line for line in told), *told)
 
 def is_rate(found, words, capture):
     for rate in re.findall(r'--rate (\S+)', found[1].replace(',', ' ')):
@@ -77,11 +76,11 @@ def is_sync(found, words, capture):
     is_judged = verdicts(synced, capture)[0] < 2
     judge(f'{capture} {words}: --sync', is_judged and not has_sign('begins inside traffic', synced, capture))
 
-SAID = [(r'(?:next: )?yes with (.*)$', makes_a_yes),
+SAID = [(r'(?:next: )?(?:.* is not valid at .*; )?yes with (.*)$', makes_a_yes),
         (r'next: .* is not valid at --rate .*; it is valid at (.*)$', is_valid_at),
         (r'next: .* is not valid at any rate: ', None),
         (r'next: (?:.*; )?record (\d+) keeps the rules with (.*)$', keeps_the_rules),
-        (r'next: (?:neither|no) .* makes? it a yes', nothing_is_a_yes),
+        (r'next: (?:.*; )?(?:neither|no) (.*) makes it a yes', nothing_is_a_yes),
         (r'look at: rate, .*; ask with (.*)$', is_rate),
         (r'look at: .*; ask with (--sync)$', is_sync)]
 
