@@ -9,7 +9,7 @@ const { judge, tell_counts } = require('../web/asking.js');
 
 const [, , folder] = process.argv;
 // What says that the whole capture keeps the rules.
-const ACQUITS = /keeps? the rules|can have given these replies|no record breaks a rule\./i;
+const ACQUITS = /keeps? the rules|\ba deck can have given these replies|no record breaks a rule\./i;
 const COUNTED = /^([\d,]+) breaks?(?: in this stretch, ([\d,]+) outside of it)?$/;
 const number_of = text => Number((text || '0').replace(/,/g, ''));
 
