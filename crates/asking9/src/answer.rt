@@ -56,16 +56,6 @@ impl Answer {
         self.ended.is_err()
     }
 
-    /// How far the judging came: up to the record of a break, or with fewer breaks further than with more.
-    pub fn reach(&self) -> u64 {
-        match &self.ended {
-            Ok(Ending::Verdict(Verdict::No { at, .. })) => u64::from(*at),
-            Ok(Ending::Verdict(Verdict::Yes { .. })) => u64::MAX,
-            Ok(Ending::Totals(totals)) => u64::MAX - totals.breaks,
-            Err(_) => 0,
-        }
-    }
-
     /// Puts its line: what was asked with, and what `check` writes last, or what stands first on standard error.
     pub fn put(&self, text: &mut Vec<u8>) -> Result<(), AllocError>
         ensures { OnOk result (text.new.items ≡ text.old.items ++ line_of_answer self.now) }

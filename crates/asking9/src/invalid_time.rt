@@ -13,7 +13,7 @@ struct Digits {
     frames: u8,
 }
 
-/// Puts a line that says what is wrong with the time of these bytes at a rate, and at which rates it is valid.
+/// Puts what is wrong with the time of these bytes at a rate.
 pub(crate) fn put_invalid(
     line: &mut Vec<u8>,
     bytes: [u8; 4],
@@ -27,24 +27,17 @@ pub(crate) fn put_invalid(
     };
     digits.put(line, rate)?;
     put_text(line, " is not valid at ")?;
-    match valid_rates(bytes) {
-        0 => {
-            put_text(line, "any rate: ")?;
-            digits.put_wrong(line, rate)?;
-        }
-        count => {
-            put_rate(line, rate)?;
-            put_text(line, ": ")?;
-            digits.put_wrong(line, rate)?;
-            put_text(line, "; it is valid at ")?;
-            put_valid(line, bytes, count)?;
-        }
+    if valid_rates(bytes) == 0 {
+        put_text(line, "any rate")?;
+    } else {
+        put_rate(line, rate)?;
     }
-    put_text(line, "\n")
+    put_text(line, ": ")?;
+    digits.put_wrong(line, rate)
 }
 
 /// At how many of the rates a time is valid.
-fn valid_rates(bytes: [u8; 4]) -> usize {
+pub(crate) fn valid_rates(bytes: [u8; 4]) -> usize {
     Rate::ALL
         .iter()
         .filter(|rate| is_valid(bytes, **rate))
@@ -56,8 +49,10 @@ fn is_valid(bytes: [u8; 4], rate: Rate) -> bool {
     TimeCode::from_bytes_at(rate, bytes).is_some()
 }
 
-/// Puts the rates at which a time is valid, of which there are so many.
-fn put_valid(line: &mut Vec<u8>, bytes: [u8; 4], count: usize) -> Result<(), AllocError> {
+/// Puts at which rates a time is valid.
+pub(crate) fn put_valid(line: &mut Vec<u8>, bytes: [u8; 4]) -> Result<(), AllocError> {
+    put_text(line, "it is valid at ")?;
+    let count = valid_rates(bytes);
     let mut left = count;
     for rate in &Rate::ALL {
         if !is_valid(bytes, *rate) {

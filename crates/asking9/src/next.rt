@@ -1,64 +1,91 @@
 //! What to ask next after a `why` that is a no: a line on standard error.
 ghost use Rattle.program9.specs.Judging.{IsHint};
 
-use crate::answer::Answer;
-use crate::asking::answers_to;
-use crate::best::{message_of, put_next};
-use crate::broken::{Broken, first_broken};
-use crate::invalid_time::put_invalid;
+use crate::advice::{put_first, put_found};
+use crate::first_asked::first_asked;
+use crate::question::{Asked, Question, Unasked};
 use program9::{Keeping, Message, Told};
-use report9::{JudgeError, put_text};
+use report9::put_text;
 use std::alloc::Global;
 use std::io::Read;
 
-/// Said where the capture was not kept: too long, or memory for it was refused.
-const UNKEPT: &str =
-    "next: ninecheck try asks at each frame rate, with and without a hand on the panel";
+/// Said where it can't be asked: the capture is too long to be kept, memory was refused, or too much of it would have to be judged.
+const UNASKED: &str =
+    "next: ninecheck try asks at each frame rate, with a hand on the panel and with the sheets of the program";
 
 /// What is said of what to ask next, after this was told of the capture that was kept.
-pub fn ask_next<R: Read + Drop>(alloc: Global, kept: Keeping<R>, told: Told) -> Message
+pub fn ask_next<R: Read + Drop>(alloc: Global, kept: Keeping<R>, told: Told<'_>) -> Message
     ensures { IsHint result }
 {
     match line_of(alloc, kept, told) {
         Ok(line) => message_of(line),
-        Err(_) => match String::from_str(alloc, UNKEPT) {
+        Err(_) => match String::from_str(alloc, UNASKED) {
             Ok(line) => Message::Lines(line),
             Err(_) => Message::Nothing,
         },
     }
 }
 
-/// Whether memory was refused for an answer.
-fn is_out_of_memory(answer: &Answer) -> bool {
-    matches!(&answer.ended, Err(JudgeError::OutOfMemory))
-}
-
-/// The line, or none where there is nothing to ask. An error comes where the capture is not kept, or where memory is refused. After a
-/// contradiction all of the capture is asked, also what comes behind it.
+/// The line, or none where there is nothing to ask. The capture is read on to its end, since only what explains all of it is told as a yes;
+/// what is said of a time needs no more than what was read already.
 fn line_of<R: Read + Drop>(
     alloc: Global,
     kept: Keeping<R>,
-    told: Told,
-) -> Result<Vec<u8>, JudgeError> {
+    told: Told<'_>,
+) -> Result<Vec<u8>, Unasked> {
     let mut kept = kept;
-    let Told { scope, profile, .. } = told;
     let mut line = Vec::new(alloc);
-    match first_broken::<R>(alloc, kept.text()?, scope, &profile)? {
-        None => {}
-        Some(Broken::Time(bytes)) => {
-            put_text(&mut line, "next: ")?;
-            put_invalid(&mut line, bytes, profile.rate)?;
-        }
-        Some(Broken::Contradiction) => {
-            kept.read_rest();
-            put_text(&mut line, "next: ")?;
-            let answers = answers_to::<R>(alloc, kept.text()?, scope, profile)?;
-            let answers = answers.as_slice();
-            if answers.iter().any(|answer| is_out_of_memory(answer)) {
-                return Err(JudgeError::OutOfMemory);
-            }
-            put_next(&mut line, answers)?;
-        }
-    }
+    let question = question_of(kept.text()?, told);
+    let asked = match told.broken {
+        Some(broken) => Asked::of_first(broken),
+        None => match first_of::<R>(alloc, &question)? {
+            Some(asked) => asked,
+            None => return Ok(line),
+        },
+    };
+    put_text(&mut line, "next: ")?;
+    let time = put_first::<R>(alloc, &mut line, &question, &asked)?;
+    kept.read_rest();
+    let text = kept.text().unwrap_or(b"");
+    let question = question_of(text, told);
+    put_found::<R>(alloc, &mut line, &question, &asked, time)?;
+    put_text(&mut line, "\n")?;
     Ok(line)
+}
+
+/// What was asked of a capture with this text.
+fn question_of<'q>(text: &'q [u8], told: Told<'q>) -> Question<'q> {
+    Question {
+        text,
+        scope: told.scope,
+        rate: told.rate,
+        hands: told.hands,
+        sheets: told.sheets,
+    }
+}
+
+/// The first break over all parts.
+fn first_of<R: Read + Drop>(
+    alloc: Global,
+    question: &Question<'_>,
+) -> Result<Option<Asked>, Unasked> {
+    match question.own().profile(alloc, question)? {
+        Some(profile) => first_asked::<R>(alloc, question, &profile),
+        None => Ok(None),
+    }
+}
+
+/// The lines as what is said; nothing where there are none.
+pub fn message_of(lines: Vec<u8>) -> Message
+    ensures { IsHint result }
+{
+    let mut lines = lines;
+    lines.pop(); // whoever prints the message ends its last line
+    if lines.is_empty() {
+        return Message::Nothing;
+    }
+    match String::from_utf8(lines) {
+        Ok(lines) => Message::Lines(lines),
+        Err(_) => Message::Nothing,
+    }
 }

@@ -46,9 +46,4 @@ impl Terms {
             _ => false,
         }
     }
-
-    /// How many of these the answer needs: the sheet, and a hand.
-    pub(crate) fn needs(&self) -> u8 {
-        u8::from(self.has_sheet) + u8::from(self.hands == Hands::Allowed)
-    }
 }

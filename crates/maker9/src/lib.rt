@@ -7,6 +7,7 @@ mod hints;
 mod lines;
 mod maker;
 mod making;
+mod paging;
 mod part_files;
 mod status;
 mod trying;

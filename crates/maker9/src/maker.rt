@@ -2,9 +2,10 @@
 
 use crate::exporting::{convert, split};
 use crate::making::{
-    draw, make_page, rewrite_times, scope_of, tell_info, tell_json_run, tell_touches, view_of,
-    write_delays, write_digest, write_json, write_motion,
+    draw, rewrite_times, scope_of, tell_info, tell_json_run, tell_touches, view_of, write_delays,
+    write_digest, write_json, write_motion,
 };
+use crate::paging::make_page;
 use crate::part_files::PartFiles;
 use crate::status::{outcome_kept, outcome_made, outcome_rewritten, outcome_told};
 use crate::trying::try_each;
@@ -73,7 +74,8 @@ impl<F: PartFiles + Drop> Maker for Makes<F> {
             }
             Made::Try(extent) => {
                 let scope = scope_of(&job, extent);
-                let told = try_each(alloc, reader, out, scope, job.profile);
+                let sheets = named.sheet_texts.as_slice();
+                let told = try_each(alloc, reader, out, scope, job.profile, sheets);
                 outcome_kept(ended(out, told))
             }
             Made::Touches => {
@@ -93,7 +95,7 @@ impl<F: PartFiles + Drop> Maker for Makes<F> {
         }
     }
 
-    fn ask_next<R: Read + Drop>(&self, alloc: Global, kept: Keeping<R>, told: Told) -> Message {
+    fn ask_next<R: Read + Drop>(&self, alloc: Global, kept: Keeping<R>, told: Told<'_>) -> Message {
         ask_next(alloc, kept, told)
     }
 }

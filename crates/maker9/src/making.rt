@@ -1,21 +1,19 @@
 //! What is made of a capture's events, or of a text, beside the reports.
 ghost use Rattle.std.specs.Prelude.{◌≡◌, IfOk};
-ghost use Rattle.maker9.specs.Making.{IsDrawn, IsPaged};
+ghost use Rattle.maker9.specs.Making.{IsDrawn};
 
-use crate::status::{outcome_drawn, outcome_made};
+use crate::status::outcome_drawn;
 use crate::trying::unkept;
 use info9::write_info;
 use judge9::judge_with_run_for;
-use page9::{Page, PageOf};
 use picture9::{Choice, Wanted, write_picture};
-use program9::{Job, Named, Outcome, read_whole, text_again, verdict_of};
+use program9::{Job, Outcome, read_whole, text_again, verdict_of};
 use report9::{Extent, JudgeError, Scope, Stretch, TimeForm, Verdict, View};
 use seen9::{Drawn, Ending, ViewOf};
 use show9::{FewestMoves, show, show_explained};
 use std::alloc::Global;
 use std::io::{BufReader, Read, Write};
 use view9::{ClockFault, Delays, Digest, Json, MotionText, Touches, write_clock, write_json_run};
-use words9::VERSION_LINE;
 
 /// How far the job's judging goes, and from where on.
 pub(crate) fn scope_of(job: &Job, extent: Extent) -> Scope
@@ -171,46 +169,4 @@ pub(crate) fn draw<R: Read + Drop, W: Write>(
         None => Drawn::Picture(ending),
     };
     Ok(outcome_drawn(&drawn))
-}
-
-/// Keeps the capture that the reader gives, and makes a page of it, which says what the words name: how that ends.
-#[inline(never)] // as above
-pub(crate) fn make_page<R: Read + Drop, W: Write>(
-    alloc: Global,
-    reader: R,
-    writer: &mut W,
-    job: &Job,
-    named: &Named,
-) -> Result<Outcome, JudgeError>
-    ensures { IfOk result IsPaged }
-{
-    let text = match read_whole(alloc, reader) {
-        Ok(text) => text,
-        Err(e) => return unkept(&e),
-    };
-    let page_of = PageOf {
-        text: text.as_slice(),
-        file: named.file.as_ref().map(|file| file.as_bytes()),
-        sheets: named.sheets.as_slice(),
-        version: VERSION_LINE.as_bytes(),
-        beginning: job.asked.beginning,
-        stretch: job.asked.stretch,
-    };
-    let of = view_of(job, Extent::WholeCapture);
-    let ending = write_page::<R, W>(alloc, writer, of, &page_of)?;
-    Ok(outcome_made(&Ok(ending)))
-}
-
-/// Judges the text of a page, which is read where a reader of this type would be, and writes the page: how the judging ends.
-fn write_page<R: Read + Drop, W: Write>(
-    alloc: Global,
-    writer: &mut W,
-    of: ViewOf<'_>,
-    page_of: &PageOf<'_>,
-) -> Result<Ending, JudgeError> {
-    let text = page_of.text;
-    let mut page = Page::new(alloc, text_again::<R>(text), of, &FewestMoves)?;
-    let ending = show_explained(alloc, text_again::<R>(text), &mut page, of)?;
-    page.write(alloc, text_again::<R>(text), writer, page_of)?;
-    Ok(ending)
 }

@@ -11,15 +11,15 @@ ghost use Rattle.maker9.specs.Trying.{IsUnkept, MayTell, TellsAnswers, end_of_re
 use crate::hints::hints_of;
 use crate::lines::{are_all_refused, lines_of, status_of};
 use crate::status::outcome_made;
-use asking9::{Answer, answers_to};
-use deck9::Profile;
-use program9::{Message, Outcome, read_whole, text_again};
+use asking9::{Answer, Question, answers_to};
+use deck9::{Hands, Profile};
+use program9::{Message, Outcome, read_whole};
 use report9::{JudgeError, Scope, write_all};
 use std::alloc::{AllocError, Global};
 use std::io::{self, Read, Write};
 
 /// Keeps the capture that the reader gives, asks with all terms, at the profile's own rate first, and writes a line for each answer,
-/// unless all were refused. The profile's hands say nothing. The writer is not flushed.
+/// unless all were refused. The profile's hands say nothing; the sheets are the texts that its deck comes from. The writer is not flushed.
 ///
 /// * `Ok` with status 0 where an answer is a yes, and else 1; the message says what to look at besides. Where all were refused nothing
 ///   is written, and the end is that of the first. Where the reader fails nothing is written, and the status is 4.
@@ -31,6 +31,7 @@ pub(crate) fn try_each<R: Read + Drop, W: Write>(
     writer: &mut W,
     scope: Scope,
     profile: Profile,
+    sheets: &[Vec<u8>],
 ) -> Result<Outcome, JudgeError>
     ensures { TellsAnswers scope profile (R.remaining reader) (W.contents writer.old) result (W.contents writer.new) }
 {
@@ -38,7 +39,7 @@ pub(crate) fn try_each<R: Read + Drop, W: Write>(
         Ok(text) => text,
         Err(e) => return unkept(&e),
     };
-    match answers_with_hints::<R>(alloc, text.as_slice(), scope, profile) {
+    match answers_with_hints::<R>(alloc, text.as_slice(), scope, profile, sheets) {
         Ok((answers, hints)) => tell_answers(alloc, writer, answers.as_slice(), hints),
         Err(_) => Err(JudgeError::OutOfMemory),
     }
@@ -50,17 +51,20 @@ fn answers_with_hints<R: Read + Drop>(
     text: &[u8],
     scope: Scope,
     own: Profile,
+    sheets: &[Vec<u8>],
 ) -> Result<(Vec<Answer>, Message), AllocError>
     ensures answers { IfOk result (λ both. AreAnswers scope own.deck text.now (all_terms own) both.0.items) }
     ensures hints { IfOk result (λ both. IsHint both.1) }
 {
+    let question = Question {
+        text,
+        scope,
+        rate: own.rate,
+        hands: Hands::None,
+        sheets,
+    };
     let answers = answers_to::<R>(alloc, text, scope, own)?;
-    let hints = hints_of(
-        alloc,
-        text_again::<R>(text),
-        scope.beginning,
-        answers.as_slice(),
-    )?;
+    let hints = hints_of::<R>(alloc, &question, answers.as_slice())?;
     Ok((answers, hints))
 }
 

@@ -39,4 +39,4 @@ mod table;
 mod touches;
 mod traffic;
 
-pub use page::{Page, PageOf};
+pub use page::{Advice, Page, PageOf};

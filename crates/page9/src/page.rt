@@ -33,6 +33,17 @@ pub struct PageOf<'a> {
     pub beginning: Beginning,
     /// What is shown of the capture, in the whole width.
     pub stretch: Stretch,
+    /// What to ask next after one of its breaks, if there is something.
+    pub advice: Option<Advice<'a>>,
+}
+
+/// What to ask next after a break.
+#[derive(Clone, Copy)]
+pub struct Advice<'a> {
+    /// The number of its record.
+    pub at: u32,
+    /// What it is, as `why` says it.
+    pub line: &'a [u8],
 }
 
 /// What the last reading of a capture finds.
@@ -208,7 +219,7 @@ fn put_page<S: MoveSearch>(
     following
         .session
         .put(html, shown, reasons.as_slice(), touches)?;
-    following.breaks.put(html, &again, &doubts)?;
+    following.breaks.put(html, &again, &doubts, page.advice)?;
     following.happened.put(html, extent, &again)?;
     following.touches.put(html);
     following.delays.put(html, extent, &again)?;

@@ -23,6 +23,8 @@ pub enum Again<'t, R: Read + Drop> {
     Kept(&'t [u8]),
     /// As it comes, and then a text, which begins on a line of its own.
     Followed(Followed<'t, R>),
+    /// Of one that was read to its end, the header and some of its lines.
+    Cut(Cut<'t>),
     /// As it comes, and what was read is kept.
     Keeping(&'t mut Keeping<R>),
 }
@@ -44,6 +46,7 @@ impl<R: Read + Drop> Read for Again<'_, R> {
             Again::Opened(reader) => reader.read(place),
             Again::Kept(text) => text.read(place),
             Again::Followed(both) => both.read(place),
+            Again::Cut(lines) => lines.read(place),
             Again::Keeping(both) => both.read(place),
         }
     }
@@ -73,6 +76,33 @@ impl<'t, R: Read + Drop> Followed<'t, R> {
             return b"\n".as_slice().read(place);
         }
         self.text.read(place)
+    }
+}
+
+/// A header, and then lines that stand somewhere behind it.
+#[derive(Drop)]
+pub struct Cut<'t> {
+    /// What is still to be read of the header.
+    header: &'t [u8],
+    /// The same of the lines.
+    lines: &'t [u8],
+}
+
+impl<'t> Cut<'t> {
+    /// This header, and then these lines.
+    pub fn new(header: &'t [u8], lines: &'t [u8]) -> Cut<'t> {
+        Cut { header, lines }
+    }
+
+    /// Reads on.
+    fn read(&mut self, place: &mut [u8]) -> io::Result<usize>
+        ensures { ReadsAtMost result place.new }
+    {
+        if self.header.is_empty() {
+            self.lines.read(place)
+        } else {
+            self.header.read(place)
+        }
     }
 }
 

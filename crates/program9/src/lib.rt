@@ -20,15 +20,17 @@ mod status;
 mod version;
 mod want;
 
-pub use again::{Again, Followed, Keeping, read_whole, text_again};
+pub use again::{Again, Cut, Followed, Keeping, read_whole, text_again};
 pub use buffered::Buffered;
 pub use ending::{
     End, Message, Notice, Outcome, RefusedExport, Refuser, Unopened, UnreadSheet, WhyUnopened,
 };
 pub use judging::{Job, Named, ended, judge_and_flush, verdict_of};
-pub use maker::{Maker, Told};
+pub use maker::{Broken, Maker, Told};
 pub use message::word_of;
+pub use next::is_worth_asking;
 pub use no_header::{FoundHeader, LooksLike, NoHeader};
 pub use program::run_program;
+pub use shipped::shipped;
 pub use status::{outcome, outcome_in_parts, outcome_refused};
 pub use want::Kept;

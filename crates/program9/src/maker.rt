@@ -4,21 +4,38 @@ use crate::again::Keeping;
 use crate::buffered::Buffered;
 use crate::ending::{Message, Outcome};
 use crate::judging::{Job, Named};
-use deck9::Profile;
+use block9::Reason;
+use deck9::Hands;
 use report9::{Scope, View};
 use std::alloc::Global;
 use std::io::{Read, Write};
+use tc25::Rate;
 use words9::Made;
 
+/// A record that breaks a rule.
+#[derive(Clone, Copy, PartialEq, Eq)]
+pub struct Broken {
+    /// The number of the record, counted from 1.
+    pub at: u32,
+    /// The rule.
+    pub reason: Reason,
+}
+
 /// What was told of a capture, and so what may be asked again.
-#[derive(Drop)]
-pub struct Told {
+#[derive(Clone, Copy)]
+pub struct Told<'t> {
     /// With which view.
     pub view: View,
     /// How far the capture was judged, and from where on.
     pub scope: Scope,
-    /// What the deck was taken for.
-    pub profile: Profile,
+    /// The rate of the deck's time code that it was asked with.
+    pub rate: Rate,
+    /// Whether hands were allowed.
+    pub hands: Hands,
+    /// The texts of the sheets that it was asked with.
+    pub sheets: &'t [Vec<u8>],
+    /// The record that breaks, of a judging to the first break: where there may be something to ask next.
+    pub broken: Option<Broken>,
 }
 
 /// What makes the views, pictures, pages and captures that the words may ask for, and says what to ask next. The program is handed one, as
@@ -48,6 +65,6 @@ pub trait Maker {
         ensures { makes made job (R.remaining reader) (held_contents W.contents out.old) result (contents_behind W.contents out.new) };
 
     /// What to ask next after a `why` that is a no, of what was read for it.
-    fn ask_next<R: Read + Drop>(&self, alloc: Global, kept: Keeping<R>, told: Told) -> Message
+    fn ask_next<R: Read + Drop>(&self, alloc: Global, kept: Keeping<R>, told: Told<'_>) -> Message
         ensures { IsHint result };
 }

@@ -10,7 +10,7 @@ ghost use Rattle.report9.specs.declared.verdict.View.TheVariants as a_view;
 
 use crate::again::{Again, Keeping};
 use crate::ending::{Message, Outcome};
-use crate::maker::{Maker, Told};
+use crate::maker::{Broken, Maker, Told};
 use block9::Reason;
 use report9::{JudgeError, Verdict, View};
 use std::alloc::Global;
@@ -40,15 +40,23 @@ pub(crate) fn reading<'k, R: Read + Drop>(
     }
 }
 
-/// Whether there is something to ask after this verdict: another frame rate, a hand on the panel, or a sheet.
-pub(crate) fn is_worth_asking(judged: &Result<Verdict, JudgeError>) -> bool {
+/// The record that breaks, where there is something to ask after it: another frame rate, a hand on the panel, or a sheet.
+pub(crate) fn worth_asking(judged: &Result<Verdict, JudgeError>) -> Option<Broken> {
     match judged {
-        Ok(Verdict::No { reason, .. }) => matches!(
-            reason,
-            Reason::NoRun | Reason::InvalidCommandTime | Reason::InvalidReplyTime
-        ),
-        _ => false,
+        Ok(Verdict::No { at, reason }) => {
+            let (at, reason) = (*at, *reason);
+            is_worth_asking(reason).then_some(Broken { at, reason })
+        }
+        _ => None,
     }
+}
+
+/// Whether there is something to ask after a break of this reason.
+pub fn is_worth_asking(reason: Reason) -> bool {
+    matches!(
+        reason,
+        Reason::NoRun | Reason::InvalidCommandTime | Reason::InvalidReplyTime
+    )
 }
 
 /// The end after this one of a report. What was read for it is kept where it may be worth asking.
@@ -56,7 +64,7 @@ pub(crate) fn is_worth_asking(judged: &Result<Verdict, JudgeError>) -> bool {
 pub(crate) fn hinted<R: Read + Drop, M: Maker>(
     alloc: Global,
     kept: Option<Keeping<R>>,
-    told: Told,
+    told: Told<'_>,
     end: Outcome,
     maker: &M,
 ) -> Outcome
@@ -73,7 +81,7 @@ pub(crate) fn hinted<R: Read + Drop, M: Maker>(
 fn below_why<R: Read + Drop, M: Maker>(
     alloc: Global,
     kept: Option<Keeping<R>>,
-    told: Told,
+    told: Told<'_>,
     end: Outcome,
     maker: &M,
 ) -> Outcome

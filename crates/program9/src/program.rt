@@ -172,7 +172,11 @@ fn begin<
         Ok(other) => other,
         Err(end) => return Err((end, out)),
     };
-    let Other { deck, deck_text } = other;
+    let Other {
+        deck,
+        sheet_texts,
+        deck_text,
+    } = other;
     let reader = match opener(&file) {
         Ok(reader) => reader,
         Err(e) => return Err((not_opened(file, &e), out)),
@@ -188,6 +192,7 @@ fn begin<
                 named: Named {
                     file,
                     sheets,
+                    sheet_texts,
                     export,
                     deck_text,
                 },

@@ -18,8 +18,18 @@ use std::io::{self, Read};
 pub(crate) struct Other {
     /// What the deck does of its own, where sheets say it.
     pub(crate) deck: Option<Deck>,
+    /// The texts of these sheets.
+    pub(crate) sheet_texts: Vec<Vec<u8>>,
     /// The text of the deck's file, where an export has one.
     pub(crate) deck_text: Option<Vec<u8>>,
+}
+
+/// What came of the deck's sheets.
+#[derive(Drop)]
+struct Sheets {
+    /// What the deck does of its own, where there are sheets.
+    deck: Option<Deck>,
+    texts: Vec<Vec<u8>>,
 }
 
 /// Opens the other files that the words name, and reads them: the deck's sheets, or the deck's file of an export. Else it is the end of
@@ -34,7 +44,7 @@ pub(crate) fn read_other<G: Fn(&String) -> io::Result<S>, S: Read + Drop>(
     ensures found { IfOk result (λ other. FindsDeck (FnReturnsAt G.Fn opener.now) S.remaining sheets.now (Ok other.deck)) }
     ensures ends { IfErr result (λ end. EndsOther (FnReturnsAt G.Fn opener.now) S.remaining sheets.now deck_file end) }
 {
-    let deck = find_deck(alloc, sheets, opener)?;
+    let Sheets { deck, texts } = find_deck(alloc, sheets, opener)?;
     let deck_text = match deck_file {
         Some(file) => match read_text(alloc, file, opener) {
             Ok(text) => Some(text),
@@ -42,7 +52,11 @@ pub(crate) fn read_other<G: Fn(&String) -> io::Result<S>, S: Read + Drop>(
         },
         None => None,
     };
-    Ok(Other { deck, deck_text })
+    Ok(Other {
+        deck,
+        sheet_texts: texts,
+        deck_text,
+    })
 }
 
 /// Opens a file, and reads its text to the end.
@@ -70,17 +84,23 @@ fn find_deck<G: Fn(&String) -> io::Result<S>, S: Read + Drop>(
     alloc: Global,
     files: &[String],
     opener: &G,
-) -> Result<Option<Deck>, Outcome>
+) -> Result<Sheets, Outcome>
     requires { G.IsAlwaysCallable opener.now }
-    ensures found { IfOk result (λ deck. FindsDeck (FnReturnsAt G.Fn opener.now) S.remaining files.now (Ok deck)) }
+    ensures found { IfOk result (λ found. FindsDeck (FnReturnsAt G.Fn opener.now) S.remaining files.now (Ok found.deck)) }
     ensures ends { IfErr result (λ end. FindsDeck (FnReturnsAt G.Fn opener.now) S.remaining files.now (Err end)) }
 {
     if files.is_empty() {
-        return Ok(None);
+        return Ok(Sheets {
+            deck: None,
+            texts: Vec::new(alloc),
+        });
     }
     let texts = read_texts(alloc, files, opener)?;
     match read_sheets(alloc, texts.as_slice()) {
-        Ok(deck) => Ok(Some(deck)),
+        Ok(deck) => Ok(Sheets {
+            deck: Some(deck),
+            texts,
+        }),
         Err(error) => Err(told_of(alloc, files, error)),
     }
 }

@@ -1,6 +1,8 @@
 //! An entry of the list of breaks.
 
 use crate::html::{BreakId, put_reason, put_run};
+use crate::page::Advice;
+use block9::Reason;
 use seen9::SeenBreak;
 use std::alloc::Global;
 use text9::Markup;
@@ -37,12 +39,29 @@ impl Listed {
         told.saturating_add(self.replies.len())
     }
 
-    /// Puts the entry, with its picture where it has one. Of the first of all its parts are open.
-    pub(super) fn put(&self, html: &mut Markup, picture: Option<&Markup>, is_first: bool) {
+    /// Whether it tells first of the break at this record that is no late reply.
+    pub(super) fn is_of(&self, at: u32) -> bool {
+        let first = &self.run.first;
+        first.at == at && first.reason != Reason::LateReply
+    }
+
+    /// Puts the entry, with its picture where it has one, and with what to ask next. Of the first of all its parts are open.
+    pub(super) fn put(
+        &self,
+        html: &mut Markup,
+        picture: Option<&Markup>,
+        is_first: bool,
+        advice: Option<Advice<'_>>,
+    ) {
         html.put_mark("<details class=\"break\" id=\"");
         self.id.put(html);
         html.put_mark(if is_first { "\" open>" } else { "\">" });
         self.put_summary(html);
+        if let Some(advice) = advice {
+            html.put_mark("<p><b>Ask next:</b> ");
+            html.put_foreign(advice.line);
+            html.put_mark("</p>\n");
+        }
         self.put_why(html);
         if let Some(picture) = picture {
             html.put_mark(if is_first {

@@ -3,19 +3,27 @@
 use crate::again::Again;
 use crate::breaks::Breaks;
 use crate::doubts::Doubts;
+use crate::page::Advice;
 use block9::Reason;
 use text9::{Done, Markup};
 
 impl Breaks<'_> {
-    /// Puts the section. A command is asked again so, and signs of the capture put reasons in doubt so.
-    pub(crate) fn put(&self, html: &mut Markup, again: &Again<'_>, doubts: &Doubts) -> Done {
+    /// Puts the section. A command is asked again so, and signs of the capture put reasons in doubt so; what to ask next stands at its
+    /// break.
+    pub(crate) fn put(
+        &self,
+        html: &mut Markup,
+        again: &Again<'_>,
+        doubts: &Doubts,
+        advice: Option<Advice<'_>>,
+    ) -> Done {
         html.put_mark("<section id=\"breaks\">\n<h2>Breaks</h2>\n");
         if self.count == 0 {
             self.put_none(html);
         } else {
             self.reasons.put(html, doubts)?;
             self.put_advice(html, doubts);
-            self.put_entries(html);
+            self.put_entries(html, advice);
             self.put_unlisted(html, again);
         }
         html.put_mark("</section>\n");
@@ -89,9 +97,10 @@ impl Breaks<'_> {
     }
 
     /// Puts the breaks that are listed.
-    fn put_entries(&self, html: &mut Markup) {
+    fn put_entries(&self, html: &mut Markup, advice: Option<Advice<'_>>) {
         for (place, entry) in self.listed.as_slice().iter().enumerate() {
-            entry.put(html, self.pictures.svg(place), place == 0);
+            let advice = advice.filter(|advice| entry.is_of(advice.at));
+            entry.put(html, self.pictures.svg(place), place == 0, advice);
         }
     }
 

@@ -33,6 +33,7 @@ fn page_of(alloc: Global, text: &str, stretch: Stretch) -> Result<Vec<u8>, Judge
         version: b"ninecheck 1.1.0\n",
         beginning: Beginning::FirstRecord,
         stretch,
+        advice: None,
     };
     let profile = Profile::at(Rate::Fps30, Hands::None);
     let of = ViewOf {

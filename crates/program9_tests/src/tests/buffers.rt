@@ -42,6 +42,7 @@ fn judged(alloc: Global, text: &str, report: Report, writer: Narrow) -> Option<(
     let named = Named {
         file: None,
         sheets: Vec::new(alloc),
+        sheet_texts: Vec::new(alloc),
         export: no_words(),
         deck_text: None,
     };

@@ -34,7 +34,12 @@ impl Maker for Idle {
         Outcome::new(status_of(made), Message::Nothing)
     }
 
-    fn ask_next<R: Read + Drop>(&self, _alloc: Global, _kept: Keeping<R>, _told: Told) -> Message {
+    fn ask_next<R: Read + Drop>(
+        &self,
+        _alloc: Global,
+        _kept: Keeping<R>,
+        _told: Told<'_>,
+    ) -> Message {
         Message::Nothing
     }
 }

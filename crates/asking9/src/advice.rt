@@ -1,0 +1,100 @@
+//! What to ask next after a break, as a line.
+
+use crate::invalid_time::{put_invalid, put_valid, valid_rates};
+use crate::offer::Offer;
+use crate::question::{Asked, Question, Unasked};
+use crate::search::explanation;
+use crate::time_told::time_at;
+use report9::{Extent, put_count, put_text};
+use std::alloc::{AllocError, Global};
+use std::io::Read;
+
+/// What is said first: of a time that is not valid what is wrong with it, and which it is.
+pub(crate) fn put_first<R: Read + Drop>(
+    alloc: Global,
+    line: &mut Vec<u8>,
+    question: &Question<'_>,
+    asked: &Asked,
+) -> Result<Option<[u8; 4]>, Unasked> {
+    let time = time_at::<R>(alloc, question, asked)?;
+    if let Some(time) = time {
+        put_invalid(line, time, question.rate)?;
+    }
+    Ok(time)
+}
+
+/// Puts what explains the break, behind the time that is not valid there. Where that can't be asked, it is said of the time at which rates
+/// it is valid, and without one there is an error.
+pub(crate) fn put_found<R: Read + Drop>(
+    alloc: Global,
+    line: &mut Vec<u8>,
+    question: &Question<'_>,
+    asked: &Asked,
+    time: Option<[u8; 4]>,
+) -> Result<(), Unasked> {
+    let Some(time) = time else {
+        let found = explanation::<R>(alloc, *question, *asked)?;
+        return put_explanation(alloc, line, question, asked, found);
+    };
+    if valid_rates(time) == 0 {
+        return Ok(());
+    }
+    put_text(line, "; ")?;
+    match explanation::<R>(alloc, *question, *asked) {
+        Ok(Some(offer)) => offer.put(alloc, line, question, asked),
+        Ok(None) => Ok(put_no_rate(line, question, asked)?),
+        Err(_) => Ok(put_valid(line, time)?),
+    }
+}
+
+/// Puts what explains the break, or that nothing does.
+fn put_explanation(
+    alloc: Global,
+    line: &mut Vec<u8>,
+    question: &Question<'_>,
+    asked: &Asked,
+    found: Option<Offer>,
+) -> Result<(), Unasked> {
+    if let Some(offer) = found {
+        return offer.put(alloc, line, question, asked);
+    }
+    put_text(
+        line,
+        "no frame rate, no hand on the panel and no sheet of the program makes ",
+    )?;
+    match question.scope.extent {
+        Extent::FirstBreak => put_text(line, "it a yes")?,
+        Extent::WholeCapture => {
+            put_count(line, "record ", u64::from(asked.broken.at))?;
+            put_text(line, " keep the rules")?;
+        }
+    }
+    Ok(())
+}
+
+/// Puts that no rate explains a time.
+fn put_no_rate(
+    line: &mut Vec<u8>,
+    question: &Question<'_>,
+    asked: &Asked,
+) -> Result<(), AllocError> {
+    match question.scope.extent {
+        Extent::FirstBreak => put_text(line, "no other frame rate makes it a yes"),
+        Extent::WholeCapture => {
+            put_text(line, "no other frame rate makes ")?;
+            put_count(line, "record ", u64::from(asked.broken.at))?;
+            put_text(line, " keep the rules")
+        }
+    }
+}
+
+/// Puts what to ask next after a break of a capture whose text is known to its end.
+pub fn put_advice<R: Read + Drop>(
+    alloc: Global,
+    line: &mut Vec<u8>,
+    question: &Question<'_>,
+    asked: &Asked,
+) -> Result<(), Unasked> {
+    let time = put_first::<R>(alloc, line, question, asked)?;
+    put_found::<R>(alloc, line, question, asked, time)
+}

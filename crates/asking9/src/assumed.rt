@@ -1,0 +1,135 @@
+//! What may be assumed to explain a break, and the deck that it makes.
+
+use crate::question::{Question, Unasked};
+use deck9::{Deck, Hands, Profile};
+use program9::shipped;
+use report9::{put_text, put_word};
+use sheet9::{SheetsError, read_sheets};
+use std::alloc::{AllocError, Global};
+use tc25::Rate;
+
+/// The sheets inside the program, the one that says least first.
+pub(crate) const SHEETS: [&str; 9] = [
+    "jog",
+    "var-play",
+    "no-bit",
+    "rewind",
+    "standby",
+    "user-bits",
+    "eject",
+    "edit",
+    "9pin",
+];
+
+/// Which sheets the deck does what they say of.
+#[derive(Clone, Copy, PartialEq, Eq)]
+pub(crate) enum Sheet {
+    /// One's own, if there are any.
+    Own,
+    /// None, though one has some.
+    Without,
+    /// One's own, and one or two of the program's.
+    Beside(&'static str, Option<&'static str>),
+}
+
+/// What is assumed.
+#[derive(Clone, Copy, PartialEq, Eq)]
+pub(crate) struct Assumed {
+    pub(crate) rate: Rate,
+    pub(crate) sheet: Sheet,
+    pub(crate) hands: Hands,
+}
+
+impl Assumed {
+    /// The profile; none where two of the sheets say different things of one key.
+    pub(crate) fn profile(
+        &self,
+        alloc: Global,
+        question: &Question<'_>,
+    ) -> Result<Option<Profile>, Unasked> {
+        let (rate, hands) = (self.rate, self.hands);
+        let texts = self.sheet_texts(alloc, question)?;
+        if texts.is_empty() {
+            return Ok(Some(Profile::at(rate, hands)));
+        }
+        let deck = deck_of(alloc, texts)?;
+        Ok(deck.map(|deck| Profile {
+            rate,
+            hands,
+            deck: Some(deck),
+        }))
+    }
+
+    /// The texts of its sheets.
+    fn sheet_texts(
+        &self,
+        alloc: Global,
+        question: &Question<'_>,
+    ) -> Result<Vec<Vec<u8>>, AllocError> {
+        let mut texts = Vec::new(alloc);
+        if self.sheet == Sheet::Without {
+            return Ok(texts);
+        }
+        for text in question.sheets {
+            texts.push(Vec::from_slice(alloc, text.as_slice())?)?;
+        }
+        self.push_shipped(alloc, &mut texts)?;
+        Ok(texts)
+    }
+
+    /// Adds the texts of those of the program.
+    fn push_shipped(&self, alloc: Global, texts: &mut Vec<Vec<u8>>) -> Result<(), AllocError> {
+        if let Sheet::Beside(first, second) = self.sheet {
+            texts.push(text_of(alloc, first)?)?;
+            if let Some(second) = second {
+                texts.push(text_of(alloc, second)?)?;
+            }
+        }
+        Ok(())
+    }
+
+    /// The deck that does what the sheets of the program say alone; none where there is none of these.
+    pub(crate) fn shipped_deck(&self, alloc: Global) -> Result<Option<Deck>, Unasked> {
+        let mut texts = Vec::new(alloc);
+        self.push_shipped(alloc, &mut texts)?;
+        deck_of(alloc, texts)
+    }
+
+    /// Puts the options beside those that it was asked with already, as ` with --rate 30` or ` without --deck`.
+    pub(crate) fn put(&self, line: &mut Vec<u8>, own: &Question<'_>) -> Result<(), AllocError> {
+        if self.sheet == Sheet::Without {
+            return put_text(line, " without --deck");
+        }
+        put_text(line, " with")?;
+        if self.rate != own.rate {
+            put_word(line, " --rate ", self.rate.word())?;
+        }
+        if let Sheet::Beside(first, second) = self.sheet {
+            put_word(line, " --deck ", first)?;
+            if let Some(second) = second {
+                put_word(line, " --deck ", second)?;
+            }
+        }
+        if self.hands != own.hands {
+            put_text(line, " --hands")?;
+        }
+        Ok(())
+    }
+}
+
+/// The text of a sheet of the program.
+fn text_of(alloc: Global, name: &str) -> Result<Vec<u8>, AllocError> {
+    Vec::from_slice(alloc, shipped(name).unwrap_or("").as_bytes())
+}
+
+/// The deck that does what these texts say together; none where two say different things of one key.
+fn deck_of(alloc: Global, texts: Vec<Vec<u8>>) -> Result<Option<Deck>, Unasked> {
+    if texts.is_empty() {
+        return Ok(None);
+    }
+    match read_sheets(alloc, texts.as_slice()) {
+        Ok(deck) => Ok(Some(deck)),
+        Err(SheetsError::OutOfMemory) => Err(Unasked),
+        Err(_) => Ok(None),
+    }
+}

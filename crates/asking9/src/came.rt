@@ -1,0 +1,138 @@
+//! What judging a stretch of a capture comes to.
+
+use crate::piece::Piece;
+use crate::question::Unasked;
+use block9::{Command, Exchange};
+use deck9::{Deck, DeckRef, Effect, Forgotten, Mode, Profile};
+use program9::Broken;
+use report9::{Extent, JudgeError, Scope, Stretch};
+use seen9::{SeenBreak, SeenExchange, View, ViewOf};
+use show9::show;
+use std::alloc::Global;
+use std::io::Read;
+
+/// An exchange's command, and its first record in the capture.
+#[derive(Clone, Copy)]
+pub(crate) struct Place {
+    pub(crate) record: u32,
+    pub(crate) command: Command,
+    /// The first two bytes of its block.
+    pub(crate) head: u32,
+    /// Whether the sheet says what the deck does at it.
+    pub(crate) is_said: bool,
+}
+
+/// How a judging ends.
+#[derive(Clone, Copy, PartialEq, Eq)]
+pub(crate) enum End {
+    /// No record breaks a rule.
+    Yes,
+    /// This one does.
+    Broken(Broken),
+    /// This row can't be read.
+    BadRow(u32),
+}
+
+/// What a judging comes to.
+#[derive(Clone, Copy)]
+pub(crate) struct Came {
+    pub(crate) end: End,
+    /// The last exchange at whose command the sheet says what the deck does; the last exchange where there is none.
+    pub(crate) place: Option<Place>,
+}
+
+/// What is noted of a judging.
+#[derive(Drop)]
+struct Noted<'d> {
+    /// The sheet whose commands are looked for, if there is one.
+    sheet: Option<&'d Deck>,
+    before: u32,
+    broken: Option<Broken>,
+    place: Option<Place>,
+}
+
+impl View for Noted<'_> {
+    fn exchange(&mut self, seen: &SeenExchange<'_>) -> Result<(), JudgeError> {
+        let Some(sheet) = self.sheet else {
+            return Ok(());
+        };
+        let is_said = says_of(sheet, seen.exchange);
+        if is_said || !self.place.is_some_and(|place| place.is_said) {
+            self.place = Some(Place {
+                record: self.before.saturating_add(seen.first),
+                command: seen.exchange.command,
+                head: seen.exchange.block.head(),
+                is_said,
+            });
+        }
+        Ok(())
+    }
+
+    /// The first break ends the judging, as a write that failed does. A late reply is none over all parts.
+    fn broken(&mut self, broken: &SeenBreak) -> Result<(), JudgeError> {
+        self.broken = Some(Broken {
+            at: self.before.saturating_add(broken.at),
+            reason: broken.reason,
+        });
+        Err(JudgeError::Write)
+    }
+}
+
+/// Judges a piece of a capture for a deck of this profile, and looks for the commands at which the sheet says what the deck does.
+pub(crate) fn judge_piece<R: Read + Drop>(
+    alloc: Global,
+    piece: &Piece<'_>,
+    extent: Extent,
+    profile: &Profile,
+    sheet: Option<&Deck>,
+) -> Result<Came, Unasked> {
+    let mut noted = Noted {
+        sheet,
+        before: piece.before,
+        broken: None,
+        place: None,
+    };
+    let of = ViewOf {
+        scope: Scope {
+            extent,
+            beginning: piece.beginning,
+        },
+        stretch: Stretch::ALL,
+        profile,
+    };
+    let shown = show(alloc, piece.reader::<R>(), &mut noted, of);
+    let end = match (noted.broken, shown) {
+        (Some(broken), _) => End::Broken(broken),
+        (None, Ok(_)) => End::Yes,
+        (None, Err(JudgeError::Capture(e))) => End::BadRow(piece.before.saturating_add(e.row)),
+        (None, Err(_)) => return Err(Unasked),
+    };
+    let place = noted.place;
+    Ok(Came { end, place })
+}
+
+/// Whether a sheet says what the deck does at an exchange's command: that it forgets something there, may go on to a mode or begin
+/// something by itself, or shows other modes on the way to what it was told to do.
+fn says_of(sheet: &Deck, exchange: &Exchange) -> bool {
+    let head = exchange.block.head();
+    if sheet.goals.contains_key(&head) || sheet.acts.contains_key(&head) {
+        return true;
+    }
+    let forgets = sheet.forgets.get(&head).or(sheet.also_forgets.get(&head));
+    if forgets.is_some_and(|forgotten| *forgotten != Forgotten::Nothing) {
+        return true;
+    }
+    match DeckRef::none().effect(&exchange.command) {
+        Effect::Go(mode) => shows_more(sheet, mode) || shows_more(sheet, Mode::Stop),
+        Effect::KeepOr(_) => shows_more(sheet, Mode::Stop),
+        _ => false,
+    }
+}
+
+/// Whether a sheet names modes on the way to a goal. Every goal may end in STOP.
+fn shows_more(sheet: &Deck, goal: Mode) -> bool {
+    match sheet.ways.get(goal.index()) {
+        Some(way) => *way != DeckRef::none().way(goal),
+        None => false,
+    }
+}

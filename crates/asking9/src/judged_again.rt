@@ -1,0 +1,181 @@
+//! What is judged again in the search: near a break first, and then all of the capture.
+
+use crate::assumed::Assumed;
+use crate::came::{Came, End, judge_piece};
+use crate::offer::{Offer, Supposes};
+use crate::piece::Piece;
+use crate::question::{Question, Unasked};
+use crate::search::{Basis, Search};
+use crate::seen_rate::fitting_instead;
+use program9::Broken;
+use report9::Beginning;
+use std::io::Read;
+use tc25::Rate;
+
+/// So many records before a break are looked at first, and so many where the cause lies further back.
+const NEAR: [u32; 2] = [65_536, 524_288];
+
+impl<'q> Search<'q> {
+    /// The records up to a break from which on it comes as it does in the capture.
+    pub(crate) fn near<R: Read + Drop>(
+        &mut self,
+        assumed: Assumed,
+        broken: Broken,
+    ) -> Result<Piece<'q>, Unasked> {
+        let before = self.whole.before;
+        for records in NEAR {
+            let first = broken.at.saturating_sub(records);
+            let (first, beginning) = if first <= before {
+                (before.saturating_add(1), self.whole.beginning)
+            } else {
+                (first, Beginning::FirstCommand)
+            };
+            let near = Piece::between(self.question.text, first, broken.at, beginning);
+            if let Some(near) = near {
+                if self.breaks_so::<R>(&near, assumed, broken)? {
+                    return Ok(near);
+                }
+            }
+        }
+        Ok(self.whole)
+    }
+
+    /// Whether a piece breaks so.
+    pub(crate) fn breaks_so<R: Read + Drop>(
+        &mut self,
+        piece: &Piece<'_>,
+        assumed: Assumed,
+        broken: Broken,
+    ) -> Result<bool, Unasked> {
+        let came = self.judge::<R>(piece, assumed)?;
+        Ok(came.is_some_and(|came| came.end == End::Broken(broken)))
+    }
+
+    /// Judges a piece; none where two sheets say different things of one key.
+    fn judge<R: Read + Drop>(
+        &mut self,
+        piece: &Piece<'_>,
+        assumed: Assumed,
+    ) -> Result<Option<Came>, Unasked> {
+        if piece.len() > self.left {
+            return Err(Unasked);
+        }
+        self.left = self.left.saturating_sub(piece.len());
+        let (alloc, extent) = (self.alloc, self.question.scope.extent);
+        let Some(profile) = assumed.profile(alloc, &self.question)? else {
+            return Ok(None);
+        };
+        let sheet = assumed.shipped_deck(alloc)?;
+        let came = judge_piece::<R>(alloc, piece, extent, &profile, sheet.as_ref())?;
+        Ok(Some(came))
+    }
+
+    /// Those of these that come past the break, as far as the records near it tell.
+    pub(crate) fn offers<R: Read + Drop>(
+        &mut self,
+        list: &[Assumed],
+        basis: &Basis<'_>,
+    ) -> Result<Vec<Offer>, Unasked> {
+        let mut offers = Vec::new(self.alloc);
+        for assumed in list {
+            let Some(offer) = self.offer::<R>(*assumed, basis)? else {
+                continue;
+            };
+            if offers.push(offer).is_err() {
+                return Err(Unasked);
+            }
+        }
+        Ok(offers)
+    }
+
+    /// This, where it comes past the break, as far as the records near it tell.
+    fn offer<R: Read + Drop>(
+        &mut self,
+        assumed: Assumed,
+        basis: &Basis<'_>,
+    ) -> Result<Option<Offer>, Unasked> {
+        let Some(came) = self.judge::<R>(&basis.near, assumed)? else {
+            return Ok(None);
+        };
+        let offer = Offer {
+            assumed,
+            place: came.place,
+            end: came.end,
+        };
+        Ok(is_past(came.end, basis.broken).then_some(offer))
+    }
+
+    /// The first of these that supposes so much and explains all.
+    pub(crate) fn first_yes<R: Read + Drop>(
+        &mut self,
+        offers: &[Offer],
+        supposed: Supposes,
+    ) -> Result<Option<Offer>, Unasked> {
+        for offer in offers {
+            if offer.supposes() == supposed {
+                let offer = self.on_all::<R>(*offer)?;
+                if offer.is_some_and(|offer| offer.end == End::Yes) {
+                    return Ok(offer);
+                }
+            }
+        }
+        Ok(None)
+    }
+
+    /// How all ends with it; none where it does not explain the break there, or where the capture speaks against its rate.
+    fn on_all<R: Read + Drop>(&mut self, offer: Offer) -> Result<Option<Offer>, Unasked> {
+        if self.is_spoken_against::<R>(offer.assumed.rate) {
+            return Ok(None);
+        }
+        let whole = self.whole;
+        let Some(came) = self.judge::<R>(&whole, offer.assumed)? else {
+            return Ok(None);
+        };
+        let offer = Offer {
+            end: came.end,
+            ..offer
+        };
+        if !is_past(came.end, self.broken) {
+            return Ok(None);
+        }
+        if offer.end != End::Yes && self.is_furthest(offer.end) {
+            self.further = Some(offer);
+        }
+        Ok(Some(offer))
+    }
+
+    /// Whether the capture speaks against a rate at which it was not asked, where it does not speak against that at which it was.
+    fn is_spoken_against<R: Read + Drop>(&self, rate: Rate) -> bool {
+        let Question {
+            text,
+            scope,
+            rate: asked,
+            ..
+        } = self.question;
+        rate != asked
+            && self.fits.is_none()
+            && fitting_instead::<R>(self.alloc, text, scope.beginning, rate).is_some()
+    }
+
+    /// Whether this end comes further than what came furthest so far.
+    fn is_furthest(&self, end: End) -> bool {
+        match self.further {
+            None => true,
+            Some(further) => record_of(end) > record_of(further.end),
+        }
+    }
+}
+
+/// Whether a judging comes past a break.
+fn is_past(end: End, broken: Broken) -> bool {
+    record_of(end) > broken.at
+}
+
+/// The record with which a judging ends; the greatest number where that is the last.
+fn record_of(end: End) -> u32 {
+    match end {
+        End::Yes => u32::MAX,
+        End::Broken(broken) => broken.at,
+        End::BadRow(row) => row,
+    }
+}
