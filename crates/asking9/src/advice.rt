@@ -1,6 +1,6 @@
 //! What to ask next after a break, as a line.
 
-use crate::invalid_time::{put_invalid, put_valid, valid_rates};
+use crate::invalid_time::{is_never_valid, put_invalid, put_valid};
 use crate::offer::Offer;
 use crate::question::{Asked, Question, Unasked};
 use crate::search::explanation;
@@ -36,7 +36,7 @@ pub(crate) fn put_found<R: Read + Drop>(
         let found = explanation::<R>(alloc, *question, *asked)?;
         return put_explanation(alloc, line, question, asked, found);
     };
-    if valid_rates(time) == 0 {
+    if is_never_valid(time) {
         return Ok(());
     }
     put_text(line, "; ")?;

@@ -27,7 +27,7 @@ pub(crate) fn put_invalid(
     };
     digits.put(line, rate)?;
     put_text(line, " is not valid at ")?;
-    if valid_rates(bytes) == 0 {
+    if is_never_valid(bytes) {
         put_text(line, "any rate")?;
     } else {
         put_rate(line, rate)?;
@@ -36,26 +36,28 @@ pub(crate) fn put_invalid(
     digits.put_wrong(line, rate)
 }
 
-/// At how many of the rates a time is valid.
-pub(crate) fn valid_rates(bytes: [u8; 4]) -> usize {
-    Rate::ALL
-        .iter()
-        .filter(|rate| is_valid(bytes, **rate))
-        .count()
+/// Whether a time is valid at no rate.
+pub(crate) fn is_never_valid(bytes: [u8; 4]) -> bool {
+    valid_rates(bytes) == [false; 4]
 }
 
-/// Whether a time is valid at a rate.
-fn is_valid(bytes: [u8; 4], rate: Rate) -> bool {
-    TimeCode::from_bytes_at(rate, bytes).is_some()
+/// At which of the rates a time is valid.
+fn valid_rates(bytes: [u8; 4]) -> [bool; 4] {
+    Rate::ALL.map(|rate| TimeCode::from_bytes_at(rate, bytes).is_some())
 }
 
 /// Puts at which rates a time is valid.
 pub(crate) fn put_valid(line: &mut Vec<u8>, bytes: [u8; 4]) -> Result<(), AllocError> {
     put_text(line, "it is valid at ")?;
-    let count = valid_rates(bytes);
+    put_rates(line, valid_rates(bytes))
+}
+
+/// Puts the options of these of all rates.
+pub(crate) fn put_rates(line: &mut Vec<u8>, rates: [bool; 4]) -> Result<(), AllocError> {
+    let count = rates.iter().filter(|has| **has).count();
     let mut left = count;
-    for rate in &Rate::ALL {
-        if !is_valid(bytes, *rate) {
+    for (rate, has) in Rate::ALL.iter().zip(rates) {
+        if !has {
             continue;
         }
         if left < count {

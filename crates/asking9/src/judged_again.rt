@@ -1,8 +1,8 @@
 //! What is judged again in the search: near a break first, and then all of the capture.
 
-use crate::assumed::Assumed;
+use crate::assumed::{Assumed, Sheet};
 use crate::came::{Came, End, judge_piece};
-use crate::offer::{Offer, Supposes};
+use crate::offer::{Offer, Supposes, only_rate};
 use crate::piece::Piece;
 use crate::question::{Question, Unasked};
 use crate::search::{Basis, Search};
@@ -101,6 +101,7 @@ impl<'q> Search<'q> {
             assumed,
             place: came.place,
             end: came.end,
+            rates: only_rate(assumed.rate),
         };
         Ok(is_past(came.end, basis.broken).then_some(offer))
     }
@@ -120,6 +121,26 @@ impl<'q> Search<'q> {
             }
         }
         Ok(None)
+    }
+
+    /// The first of these that explains all; where that is another rate, with all rates that do.
+    pub(crate) fn yes_alone<R: Read + Drop>(
+        &mut self,
+        offers: &[Offer],
+    ) -> Result<Option<Offer>, Unasked> {
+        let mut found: Option<Offer> = None;
+        for offer in offers {
+            match (found, self.on_all::<R>(*offer)) {
+                (Some(first), Ok(Some(also))) => found = Some(first.with_rate_of(&also)),
+                (None, Ok(Some(first))) if first.end == End::Yes => found = Some(first),
+                (None, Err(unasked)) => return Err(unasked),
+                _ => {}
+            }
+            if found.is_some_and(|found| found.assumed.sheet == Sheet::Without) {
+                break;
+            }
+        }
+        Ok(found)
     }
 
     /// How all ends with it; none where it does not explain the break there, or where the capture speaks against its rate.

@@ -2,10 +2,12 @@
 
 use crate::assumed::{Assumed, Sheet};
 use crate::came::{End, Place};
+use crate::invalid_time::put_rates;
 use crate::question::{Asked, Question, Unasked};
 use deck9::{Hands, Profile};
 use report9::{Extent, put_count, put_head, put_text, put_word};
 use std::alloc::{AllocError, Global};
+use tc25::Rate;
 
 /// What explains a break.
 #[derive(Clone, Copy)]
@@ -15,6 +17,13 @@ pub(crate) struct Offer {
     pub(crate) place: Option<Place>,
     /// How the judging ends with it.
     pub(crate) end: End,
+    /// The rates, in the order in which they are told, at which it explains as much.
+    pub(crate) rates: [bool; 4],
+}
+
+/// This rate alone.
+pub(crate) fn only_rate(rate: Rate) -> [bool; 4] {
+    Rate::ALL.map(|other| other == rate)
 }
 
 /// How much an explanation supposes of what the capture does not show.
@@ -41,6 +50,26 @@ impl Offer {
         }
     }
 
+    /// The same, and at the rate of another that is a yes too.
+    pub(crate) fn with_rate_of(&self, also: &Offer) -> Offer {
+        let mut both = *self;
+        if also.end == End::Yes {
+            for (has, more) in both.rates.iter_mut().zip(also.rates) {
+                *has |= more;
+            }
+        }
+        both
+    }
+
+    /// Puts what is assumed, of several rates each.
+    fn put_assumed(&self, line: &mut Vec<u8>, question: &Question<'_>) -> Result<(), AllocError> {
+        if self.rates == only_rate(self.assumed.rate) {
+            return self.assumed.put(line, question);
+        }
+        put_text(line, " with ")?;
+        put_rates(line, self.rates)
+    }
+
     /// Puts it as what to ask with, without the end of a line.
     pub(crate) fn put(
         &self,
@@ -56,7 +85,7 @@ impl Offer {
             put_count(line, "record ", u64::from(asked.broken.at))?;
             put_text(line, " keeps the rules")?;
         }
-        self.assumed.put(line, question)?;
+        self.put_assumed(line, question)?;
         if let (Sheet::Beside(..), Some(place)) = (self.assumed.sheet, self.place) {
             if !question.sheets.is_empty() {
                 put_text(line, " beside your own")?;

@@ -107,7 +107,7 @@ impl<'q> Search<'q> {
         };
         let alone = alone(self.alloc, &self.question, self.broken, self.fits)?;
         let offers = self.offers::<R>(alone.as_slice(), &own)?;
-        if let Some(offer) = self.first_yes::<R>(offers.as_slice(), Supposes::Little)? {
+        if let Some(offer) = self.yes_alone::<R>(offers.as_slice())? {
             return Ok(Some(offer));
         }
         match self.basis_of_rate::<R>(own)? {
