@@ -62,7 +62,7 @@ def try_program(line):
         return f'{written.count(10)} lines where the last growth is refused'
 
 
-HINTS = (b'', b'next: yes with --rate 25 --hands\n', b'next: ninecheck try asks at each frame rate, with and without a hand on the panel\n')
+HINTS = (b'', b'next: yes with --hands\n', b'next: ninecheck try asks at each frame rate, with a hand on the panel and with the sheets of the program\n')
 
 
 def try_hint(words):

@@ -36,7 +36,7 @@ dispute=$(for rate in 25 24 30 29.97df; do
     both $rate 'no at record 28: M1 no run remains' 'yes: records 28, exchanges 3, open 0'
 done)
 ask try examples/disputed-in-point.csv
-expect 'a dispute' 0 "$dispute" 'yes with --rate 25 --hands'
+expect 'a dispute' 0 "$dispute" 'yes with --hands'
 yes=$(for rate in 25 24 30 29.97df; do
     both $rate 'yes: records 6, exchanges 1, open 0' 'yes: records 6, exchanges 1, open 0'
 done)
@@ -54,9 +54,9 @@ eject=$(for rate in 25 24 30 29.97df; do
     both "$rate --deck" 'yes: records 32, exchanges 4, open 0' 'yes: records 32, exchanges 4, open 0'
 done)
 ask try --deck examples/eject.toml examples/eject.csv
-expect 'a sheet' 0 "$eject" 'yes with --rate 25 --hands, or with --rate 25 --deck'
+expect 'a sheet' 0 "$eject" 'yes with --deck'
 ask try --deck=examples/eject.toml < examples/eject.csv
-expect 'a sheet, and standard input' 0 "$eject" 'yes with --rate 25 --hands, or with --rate 25 --deck'
+expect 'a sheet, and standard input' 0 "$eject" 'yes with --deck'
 ask try --deck absent.toml examples/play.csv
 expect 'a sheet that is not there' 4 '' 'cannot open
 absent.toml: No such file or directory'
@@ -69,7 +69,7 @@ ask try --rate 30 examples/disputed-in-point.csv
 own=$(for rate in 30 25 24 29.97df; do
     both $rate 'no at record 28: M1 no run remains' 'yes: records 28, exchanges 3, open 0'
 done)
-expect "one's own rate" 0 "$own" 'yes with --rate 30 --hands'
+expect "one's own rate" 0 "$own" 'yes with --hands'
 ask try --rate 24 examples/drop-frame.csv
 judge 'another rate than one'"'"'s own' eval '[ "$status" = 0 ] && [ "$(cat "$work/err")" = "yes with --rate 29.97df" ] && [ "$(head -n 1 "$work/out")" = "--rate 24: no at record 15: P6 invalid time in a command" ]'
 
@@ -108,7 +108,7 @@ bad=$(
     both 30 'no at record 34: M1 no run remains' 'unreadable at row 35: byte'
     both 29.97df 'unreadable at row 35: byte' 'unreadable at row 35: byte'
 )
-expect 'a bad row behind a break' 1 "$bad" 'look at: rate, at record 9: a time has frame 29, asked with --rate 25; ask with --rate 29.97df, or without drop frame --rate 30'
+expect 'a bad row behind a break' 1 "$bad" "record 15 keeps the rules with --rate 29.97df; then row 35 can't be read"
 ask try absent.csv
 expect 'a file that is not there' 4 '' 'cannot open
 absent.csv: No such file or directory'
@@ -127,8 +127,19 @@ while read -r number _; do
 done < "$work/list"
 judge "drawn captures have eight lines each: $answers" [ "$answers" = 1600 ]
 
-# What `why` says to ask next: blocks of a capture, words, and the line.
+# What `why` says to ask next: blocks of a capture, words, and the line. DF42 is the deck's clock at 10:00:00;02, which has the flag of
+# drop frame, and DF61 at 10:00:00;21. AUTO is a STOP, and an AUTO EDIT in which the deck shows SHUTTLE, JOG, PLAY and REC: 65 records.
+# JOGGED is a STOP, and a VAR for which the deck shows JOG: 39 records.
+shown='C 61 20 12 93 D 72 20'
+stopped="$remote C 20 00 20 $ack $shown 20 00 B2"
+auto="$stopped C 20 42 62 $ack $shown 00 20 B2 $shown 00 10 A2 $shown 01 80 13 $shown 02 80 14"
+jogged="$stopped C 21 12 40 73 $ack $shown 00 10 A2"
 while IFS='|' read -r name words blocks line; do
+    blocks=${blocks//AUTO/$auto}
+    blocks=${blocks//JOGGED/$jogged}
+    for frames in 42:CA 43:CB 44:CC 61:E9 62:EA 63:EB; do
+        blocks=${blocks//DF${frames%:*}/C 61 0C 01 6E D 74 04 ${frames%:*} 00 00 10 ${frames#*:}}
+    done
     capture_of "$blocks"
     # shellcheck disable=SC2086
     "$program" why --quiet $words "$work/capture.csv" > "$work/want_out"
@@ -150,22 +161,34 @@ while IFS='|' read -r name words blocks line; do
     ask why --quiet $words "$work/capture.csv"
     judge "$name, quiet" eval 'cmp "$work/out" "$work/want_out" && [ "$status" = 1 ] && [ ! -s "$work/err" ]'
 done <<'END'
-frame 29 at 25||C 44 14 29 59 00 00 DA|next: 00:00:59:29 is not valid at --rate 25: the last frame is 24; it is valid at --rate 30 and --rate 29.97df
-frame 24 at 24|--rate 24|C 44 15 24 00 00 10 8D|next: 10:00:00:24 is not valid at --rate 24: the last frame is 23; it is valid at --rate 25, --rate 30 and --rate 29.97df
-a label that drop frame leaves out|--rate 29.97df|C 24 31 01 00 01 10 67|next: 10:01:00;01 is not valid at --rate 29.97df: drop frame leaves out frames 00 and 01 in second 00 of minute 01; it is valid at --rate 24, --rate 25 and --rate 30
+frame 29 at 25||C 44 14 29 59 00 00 DA|next: 00:00:59:29 is not valid at --rate 25: the last frame is 24; yes with --rate 30 and --rate 29.97df
+frame 24 at 24|--rate 24|C 44 15 24 00 00 10 8D|next: 10:00:00:24 is not valid at --rate 24: the last frame is 23; yes with --rate 25
+a label that drop frame leaves out|--rate 29.97df|C 24 31 01 00 01 10 67|next: 10:01:00;01 is not valid at --rate 29.97df: drop frame leaves out frames 00 and 01 in second 00 of minute 01; yes with --rate 24, --rate 25 and --rate 30
 frame 30||C 44 14 30 00 00 00 88|next: 00:00:00:30 is not valid at any rate: the last frame is 29
 hour 24||C 44 14 00 00 00 24 7C|next: 24:00:00:00 is not valid at any rate: the last hour is 23
 minute 60||C 44 14 00 00 60 00 B8|next: 00:60:00:00 is not valid at any rate: the last minute is 59
 second 60||C 44 14 00 60 00 00 B8|next: 00:00:60:00 is not valid at any rate: the last second is 59
 a digit that is not decimal||C 44 14 0A 00 00 00 62|next: 00:00:00:0A is not valid at any rate: the frame 0A has a digit that is not decimal
-flags are no part of the digits||C 44 14 E9 D9 80 C0 5A|next: 00:00:59:29 is not valid at --rate 25: the last frame is 24; it is valid at --rate 30 and --rate 29.97df
-a time in a reply||C 61 0C 01 6E D 74 04 25 00 00 00 9D|next: 00:00:00:25 is not valid at --rate 25: the last frame is 24; it is valid at --rate 30 and --rate 29.97df
-a dispute||C 61 20 01 82 D 71 20 00 91 C 44 14 00 00 00 10 68 D 10 01 11 C 60 10 70 D 74 10 00 00 00 11 95|next: yes with --rate 25 --hands
-a dispute at one's own rate|--rate 24|C 61 20 01 82 D 71 20 00 91 C 44 14 00 00 00 10 68 D 10 01 11 C 60 10 70 D 74 10 00 00 00 11 95|next: yes with --rate 24 --hands
-a dispute that no words settle||C 61 20 01 82 D 71 20 00 91 C 61 20 11 92 D 71 20 3F D0|next: neither a frame rate nor a hand on the panel makes it a yes (ninecheck try)
+flags are no part of the digits||C 44 14 E9 D9 80 C0 5A|next: 00:00:59:29 is not valid at --rate 25: the last frame is 24; yes with --rate 30 and --rate 29.97df
+a time in a reply||C 61 0C 01 6E D 74 04 25 00 00 00 9D|next: 00:00:00:25 is not valid at --rate 25: the last frame is 24; yes with --rate 30 and --rate 29.97df
+a time in a reply whose deck tells drop frame||DF61 DF62 DF63 C 61 0C 01 6E D 74 04 65 00 00 10 ED|next: 10:00:00:25 is not valid at --rate 25: the last frame is 24; yes with --rate 29.97df
+a wrong preset, and the deck tells drop frame|--rate 29.97df|DF42 DF43 DF44 C 24 31 01 00 01 10 67|next: 10:01:00;01 is not valid at --rate 29.97df: drop frame leaves out frames 00 and 01 in second 00 of minute 01; no other frame rate fits
+a dispute||C 61 20 01 82 D 71 20 00 91 C 44 14 00 00 00 10 68 D 10 01 11 C 60 10 70 D 74 10 00 00 00 11 95|next: yes with --hands
+a dispute at one's own rate|--rate 24|C 61 20 01 82 D 71 20 00 91 C 44 14 00 00 00 10 68 D 10 01 11 C 60 10 70 D 74 10 00 00 00 11 95|next: yes with --hands
+a dispute that nothing settles||C 61 20 01 82 D 71 20 00 91 C 61 20 11 92 D 71 20 3F D0|next: no frame rate, hand on the panel or sheet of the program explains it
+the same, with --all behind a break|--all|C 20 01 21 D 10 01 11 D 10 01 11 C 61 20 01 82 D 71 20 00 91 C 61 20 11 92 D 71 20 3F D0|next: no frame rate, hand on the panel or sheet of the program explains it
+an honest AUTO EDIT||AUTO|next: yes with --deck 9pin (AUTO EDIT at record 24)
+an honest AUTO EDIT behind a break|--all|C 20 01 21 D 10 01 11 D 10 01 11 AUTO|next: record 74 keeps the rules with --deck 9pin (AUTO EDIT at record 33)
+an honest AUTO EDIT behind a late reply|--all|C 20 01 21 +9688 D 10 01 11 AUTO|next: record 71 keeps the rules with --deck 9pin (AUTO EDIT at record 30)
+an honest AUTO EDIT, and a sheet of one's own|--deck jog|AUTO|next: yes with --deck 9pin beside your own (AUTO EDIT at record 24)
+an honest AUTO EDIT at another rate||C 44 14 29 59 00 00 DA D 10 01 11 AUTO|next: 00:00:59:29 is not valid at --rate 25: the last frame is 24; yes with --rate 30 --deck 9pin (AUTO EDIT at record 34)
+points lost after an AUTO EDIT||C 61 20 01 82 D 71 20 00 91 C 44 14 00 00 00 10 68 D 10 01 11 AUTO C 61 20 31 B2 D 71 20 00 91|next: yes with --deck 9pin --deck edit (AUTO EDIT at record 42)
+points lost after EJECT||C 61 20 01 82 D 71 20 00 91 C 44 14 00 00 00 10 68 D 10 01 11 C 20 0F 2F D 10 01 11 C 61 20 31 B2 D 71 20 01 92 C 61 20 31 B2 D 71 20 00 91|next: yes with --deck eject (EJECT at record 19)
+JOG shown for VAR||JOGGED|next: yes with --deck jog (VAR FWD at record 24)
+JOG shown for VAR, and a dispute that nothing settles||JOGGED C 61 20 11 92 D 71 20 3F D0|next: record 39 keeps the rules with --deck jog (VAR FWD at record 24); then record 47 breaks M1
 a late reply||C 20 01 21 +9688 D 10|
 a second reply||C 20 01 21 D 10 01 11 D 10 01 11|
-an invalid time behind a late reply|--all|C 20 01 21 +9688 D 10 01 11 C 44 14 29 59 00 00 DA|next: 00:00:59:29 is not valid at --rate 25: the last frame is 24; it is valid at --rate 30 and --rate 29.97df
+an invalid time behind a late reply|--all|C 20 01 21 +9688 D 10 01 11 C 44 14 29 59 00 00 DA|next: 00:00:59:29 is not valid at --rate 25: the last frame is 24; record 13 keeps the rules with --rate 30 and --rate 29.97df
 END
 
 # More than 128 MiB are not kept, most of which are empty lines here. At P6 the first of them are enough.
@@ -174,10 +197,40 @@ for words in '' --all; do
     # shellcheck disable=SC2086
     ask why $words < <(cat examples/disputed-in-point.csv && empty_lines)
     judge "a capture that is not kept, why $words" eval '[ "$status" = 1 ] &&
-        [ "$(cat "$work/err")" = "next: ninecheck try asks at each frame rate, with and without a hand on the panel" ]'
+        [ "$(cat "$work/err")" = "next: ninecheck try asks at each frame rate, with a hand on the panel and with the sheets of the program" ]'
 done
 ask why < <(cat examples/drop-frame.csv && empty_lines)
 judge 'a time before all that is not kept' grep -q '^next: 00:00:59:29 is not valid at --rate 25' "$work/err"
+
+# The same of captures that are stored: with a sheet that does not fit, and of one whose sheets explain more than a hand.
+while IFS='|' read -r words line; do
+    # shellcheck disable=SC2086
+    ask why $words
+    judge "what to ask next, $words" eval '[ "$status" = 1 ] && [ "$(cat "$work/err")" = "$line" ]'
+done <<'END'
+--deck 9pin examples/lost-in-point.csv|next: yes without --deck
+examples/rewind-at-the-end.csv|next: yes with --deck rewind (PLAY at record 9)
+examples/auto-edit.csv|next: yes with --deck 9pin --deck edit (AUTO EDIT at record 35)
+END
+
+# What lies further back than is looked at first: a preset, 70,000 records of a poll, and another IN point.
+polls=8750
+smaller polls 8750 'polls between a preset and another IN point'
+{ records "$remote $preset"; records "$remote" "$polls" | tail -n +2 | awk -F, -v OFS=, '{ $1 += 100000; print }'; } > "$work/long.csv"
+last=$(tail -n 1 "$work/long.csv" | cut -d , -f 1)
+records 'C 60 10 70 D 74 10 00 00 00 11 95' | tail -n +2 | awk -F, -v OFS=, -v last="$last" '{ $1 += last + 20000; print }' >> "$work/long.csv"
+ask why "$work/long.csv"
+judge 'a cause that lies far back' eval '[ "$status" = 1 ] && [ "$(cat "$work/err")" = "next: yes with --hands" ]'
+
+# Below the answers of `try` stands the same, and one rate alone: that of the signs.
+capture_of "$auto"
+ask try "$work/capture.csv"
+judge 'try of an honest AUTO EDIT' eval '[ "$(cat "$work/err")" = "yes with --deck 9pin (AUTO EDIT at record 24)" ]'
+capture_of 'C 61 0C 01 6E D 74 04 29 00 00 10 B1'
+for rate in 25 24; do
+    ask try --rate $rate "$work/capture.csv"
+    judge "try of frame 29, --rate $rate" eval '[ "$(cat "$work/err")" = "yes with --rate 30 and --rate 29.97df" ]'
+done
 
 # Where there is nothing to ask next, or the words are wrong, nothing is added.
 ask why examples/play.csv

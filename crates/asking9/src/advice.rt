@@ -5,8 +5,8 @@ use crate::offer::Offer;
 use crate::question::{Asked, Question, Unasked};
 use crate::search::explanation;
 use crate::time_told::time_at;
-use report9::{Extent, put_count, put_text};
-use std::alloc::{AllocError, Global};
+use report9::put_text;
+use std::alloc::Global;
 use std::io::Read;
 
 /// What is said first: of a time that is not valid what is wrong with it, and which it is.
@@ -42,7 +42,7 @@ pub(crate) fn put_found<R: Read + Drop>(
     put_text(line, "; ")?;
     match explanation::<R>(alloc, *question, *asked) {
         Ok(Some(offer)) => offer.put(alloc, line, question, asked),
-        Ok(None) => Ok(put_no_rate(line, question, asked)?),
+        Ok(None) => Ok(put_text(line, "no other frame rate fits")?),
         Err(_) => Ok(put_valid(line, time)?),
     }
 }
@@ -55,36 +55,12 @@ fn put_explanation(
     asked: &Asked,
     found: Option<Offer>,
 ) -> Result<(), Unasked> {
-    if let Some(offer) = found {
-        return offer.put(alloc, line, question, asked);
-    }
-    put_text(
-        line,
-        "no frame rate, no hand on the panel and no sheet of the program makes ",
-    )?;
-    match question.scope.extent {
-        Extent::FirstBreak => put_text(line, "it a yes")?,
-        Extent::WholeCapture => {
-            put_count(line, "record ", u64::from(asked.broken.at))?;
-            put_text(line, " keep the rules")?;
-        }
-    }
-    Ok(())
-}
-
-/// Puts that no rate explains a time.
-fn put_no_rate(
-    line: &mut Vec<u8>,
-    question: &Question<'_>,
-    asked: &Asked,
-) -> Result<(), AllocError> {
-    match question.scope.extent {
-        Extent::FirstBreak => put_text(line, "no other frame rate makes it a yes"),
-        Extent::WholeCapture => {
-            put_text(line, "no other frame rate makes ")?;
-            put_count(line, "record ", u64::from(asked.broken.at))?;
-            put_text(line, " keep the rules")
-        }
+    match found {
+        Some(offer) => offer.put(alloc, line, question, asked),
+        None => Ok(put_text(
+            line,
+            "no frame rate, hand on the panel or sheet of the program explains it",
+        )?),
     }
 }
 
