@@ -5,7 +5,8 @@
 # it also counts the instructions that each of the four takes for a record, on the first 200,000 of them. Then `check` and
 # `explain` on presets in no order, as ratios to PLAY and to half as many presets. Then `why` to `check`, both on a no of as
 # many records as whole turns of mixed traffic allow: the last three exchanges contradict one another, or the first of those
-# three lies 94 exchanges before the last (at most 1.8 is wanted of both), or 400,000 (at most 8). All are run in turn,
+# three lies 94 exchanges before the last (at most 1.8 is wanted of both), or 400,000 (at most 8); without --quiet, where it also
+# says what to ask next, at most 3 is wanted of the first two. All are run in turn,
 # fifteen times or as often as the first word says, and the best time of each counts. It also says the greatest resident
 # memory, that of `run` and of `why` on the same captures too. Not part of the gate. The program is the one that `make` or
 # the gate built.
@@ -102,7 +103,7 @@ def instructions(words, capture):
                                  stdin=text, stdout=to, stderr=subprocess.PIPE, text=True, check=True)
     return int(re.search(r'Collected : (\d+)', counted.stderr).group(1)) / COUNTED
 
-check, explain, run, why = ([program, *words.split()] for words in ('check', 'explain', 'run', 'why --quiet'))
+check, explain, run, why, hinted = ([program, *words.split()] for words in ('check', 'explain', 'run', 'why --quiet', 'why'))
 for name, exchanges in (('PLAY and ACK', lambda turn: PLAY), ('mixed traffic', mixed)):
     capture = f'{work}/capture.csv'
     write(capture, all_turns(exchanges), RECORDS)
@@ -141,10 +142,12 @@ for name, exchanges, records in (('contradicting at the end', contradicting_at_e
                                  ('contradicting from afar', contradicting_across(66666), apart(66666))):
     capture = f'{work}/capture.csv'
     write(capture, exchanges, RECORDS)
-    runs = [(seconds(check, capture, '/dev/null', 1), seconds(why, capture, f'{work}/lines', 1)) for _ in range(int(turns))]
+    runs = [(seconds(check, capture, '/dev/null', 1), seconds(hinted, capture, '/dev/null', 1), seconds(why, capture, f'{work}/lines', 1))
+            for _ in range(int(turns))]
     if told_apart(f'{work}/lines') != (3, records):
         sys.exit(f'{name}: {told_apart(f"{work}/lines")} was told')
-    judged, sought = (min(column) for column in zip(*runs))
-    print(f'{name}: check {judged:.3f} s; why {sought:.3f} s, ratio to check {sought / judged:.2f}; '
+    judged, next_asked, sought = (min(column) for column in zip(*runs))
+    print(f'{name}: check {judged:.3f} s; why --quiet {sought:.3f} s, ratio to check {sought / judged:.2f}; '
+          f'why {next_asked:.3f} s, ratio to check {next_asked / judged:.2f}; '
           f'resident memory {peak(check, capture)} kB, {peak(why, capture)} kB, of run {peak(run, capture)} kB')
 PY

@@ -101,13 +101,13 @@ async function saved() {
 // What the program says to ask next has a button that asks so.
 async function advice() {
     await drop(example('disputed-in-point.csv'));
-    equals('what to ask next', await text('next'), 'next: yes with --rate 25 --handsAsk with --rate 25 --hands');
+    equals('what to ask next', await text('next'), 'next: record 28 keeps the rules with --handsAsk with --hands');
     await browser.value("document.querySelector('#next button').click()");
     await browser.until(`document.getElementById('verdict').textContent.startsWith('Yes') && ${IDLE}`);
     equals('it is asked so', await text('asked'), 'ninecheck check --all --hands disputed-in-point.csvCopy');
     await browser.value("change_terms({hands: false})");
     await drop(example('drop-frame.csv'));
-    judge('each rate at which a time is valid', (await text('next')).includes('Ask with --rate 30Ask with --rate 29.97df'));
+    judge('the rate that fits', (await text('next')).includes('Ask with --rate 29.97df'));
     equals('the answer at each rate', await text('try-text'), built(['try', '--all', 'drop-frame.csv']).stdout);
     const swapped = path.join(work, 'swapped.csv');
     fs.writeFileSync(swapped, fs.readFileSync(example('play.csv'), 'utf8').replace(/,([CD]),/g, (it, wire) => wire === 'C' ? ',D,' : ',C,'));

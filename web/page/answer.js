@@ -135,18 +135,21 @@ async function swap_and_ask(capture) {
     }
 }
 
-// The terms that a line says to ask with. A yes is with no more than it names.
+// The terms that a line says to ask with, beside those that stand. Of the sheets in the program the page has one.
 function advised(line) {
-    const found = /(yes with|it is valid at|; ask with) (--.*)$/.exec(line);
-    return found ? found[2].split(/, or with(?:out drop frame)? | or with | and |, (?=--)/).map(part => {
-        const rate = /--rate (\S+)/.exec(part), is_yes = found[1] === 'yes with';
+    if (line.endsWith(' without --deck')) return [{ sheet: null }];
+    const found = /(?:(?:yes|keeps the rules) with|it is valid at|; ask with) (--[^(;]*)/.exec(line);
+    if (!found || found[1].includes('beside your own')) return [];
+    return found[1].trim().split(/, or with(?:out drop frame)? | and |, (?=--)/).filter(part => !/--deck(?! 9pin(?! --deck))/.test(part)).map(part => {
+        const rate = /--rate (\S+)/.exec(part);
         return {
             ...(rate && { rate: rate[1] }),
-            ...((is_yes || part.includes('--hands')) && { hands: part.includes('--hands') }),
+            ...(part.includes('--hands') && { hands: true }),
             ...(part.includes('--sync') && { sync: true }),
-            ...(is_yes && !part.includes('--deck') && { sheet: null }),
+            ...(part.includes('--deck') && { sheet: 'shipped' }),
         };
-    }) : [];
+    });
 }
 
-const change_text = ({ rate, hands, sync }) => [rate && `--rate ${rate}`, hands && '--hands', sync && '--sync'].filter(it => it).join(' ');
+const change_text = ({ rate, hands, sync, sheet }) =>
+    [rate && `--rate ${rate}`, sheet && '--deck 9pin', sheet === null && 'no sheet', hands && '--hands', sync && '--sync'].filter(it => it).join(' ');

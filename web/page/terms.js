@@ -30,7 +30,7 @@ function ask_again() {
 function change_terms(changed) {
     for (const name of ['rate', 'from', 'to']) if (name in changed) element(name).value = changed[name];
     for (const name of ['hands', 'all', 'sync']) if (name in changed) element(name).checked = changed[name];
-    if (changed.sheet === null) element('sheet').value = 'none';
+    if ('sheet' in changed) element('sheet').value = changed.sheet || 'none';
     ask_again();
 }
 
