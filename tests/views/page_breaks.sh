@@ -92,6 +92,18 @@ C 61 0C 01 6E D 74 04 29 00 00 10 B1|r11: 00:00:00.004 record 11 P7 invalid time
 END
 }
 
+# What to ask next stands at the first break where there is something to ask, as `why --all` says it.
+for capture in examples/jog-for-var.csv examples/disputed-in-point.csv examples/drop-frame.csv examples/second-reply.csv; do
+    "$program" page "$capture" > "$work/out" 2> /dev/null
+    "$program" why --all "$capture" 2>&1 > "$work/made" | sed -n 's/^next: //p' > "$work/want"
+    sed -n 's#^<p><b>Ask next:</b> \(.*\)</p>$#\1#p' "$work/out" > "$work/made"
+    judge "$capture: what to ask next" cmp "$work/made" "$work/want"
+done
+judge 'a late reply or a second one asks nothing' [ ! -s "$work/made" ]
+"$program" page examples/jog-for-var.csv > "$work/out" 2> /dev/null
+judge 'which sheet explains it' grep -qF \
+    '<p><b>Ask next:</b> record 39 keeps the rules with --deck jog (VAR FWD at record 24)</p>' "$work/out"
+
 # A contradiction: its line, its list, and the lines of why.
 contradictions() {
     section "$remote $preset +60000400 $in_at_11"

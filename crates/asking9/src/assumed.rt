@@ -1,5 +1,6 @@
 //! What may be assumed to explain a break, and the deck that it makes.
 
+use crate::habit::Habit;
 use crate::question::{Question, Unasked};
 use deck9::{Deck, Hands, Profile};
 use program9::shipped;
@@ -7,19 +8,6 @@ use report9::{put_text, put_word};
 use sheet9::{SheetsError, read_sheets};
 use std::alloc::{AllocError, Global};
 use tc25::Rate;
-
-/// The sheets inside the program, the one that says least first.
-pub(crate) const SHEETS: [&str; 9] = [
-    "jog",
-    "var-play",
-    "no-bit",
-    "rewind",
-    "standby",
-    "user-bits",
-    "eject",
-    "edit",
-    "9pin",
-];
 
 /// Which sheets the deck does what they say of.
 #[derive(Clone, Copy, PartialEq, Eq)]
@@ -29,7 +17,7 @@ pub(crate) enum Sheet {
     /// None, though one has some.
     Without,
     /// One's own, and one or two of the program's.
-    Beside(&'static str, Option<&'static str>),
+    Beside(Habit, Option<Habit>),
 }
 
 /// What is assumed.
@@ -105,9 +93,9 @@ impl Assumed {
             put_word(line, " --rate ", self.rate.word())?;
         }
         if let Sheet::Beside(first, second) = self.sheet {
-            put_word(line, " --deck ", first)?;
+            put_word(line, " --deck ", first.name())?;
             if let Some(second) = second {
-                put_word(line, " --deck ", second)?;
+                put_word(line, " --deck ", second.name())?;
             }
         }
         if self.hands != own.hands {
@@ -118,8 +106,8 @@ impl Assumed {
 }
 
 /// The text of a sheet of the program.
-fn text_of(alloc: Global, name: &str) -> Result<Vec<u8>, AllocError> {
-    Vec::from_slice(alloc, shipped(name).unwrap_or("").as_bytes())
+fn text_of(alloc: Global, habit: Habit) -> Result<Vec<u8>, AllocError> {
+    Vec::from_slice(alloc, shipped(habit.name()).unwrap_or("").as_bytes())
 }
 
 /// The deck that does what these texts say together; none where two say different things of one key.

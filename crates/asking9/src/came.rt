@@ -81,7 +81,7 @@ impl View for Noted<'_> {
 /// Judges a piece of a capture for a deck of this profile, and looks for the commands at which the sheet says what the deck does.
 pub(crate) fn judge_piece<R: Read + Drop>(
     alloc: Global,
-    piece: &Piece<'_>,
+    piece: Piece<'_>,
     extent: Extent,
     profile: &Profile,
     sheet: Option<&Deck>,

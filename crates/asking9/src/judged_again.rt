@@ -1,6 +1,6 @@
 //! What is judged again in the search: near a break first, and then all of the capture.
 
-use crate::assumed::{Assumed, Sheet};
+use crate::assumed::Assumed;
 use crate::came::{Came, End, judge_piece};
 use crate::offer::{Offer, Supposes, only_rate};
 use crate::piece::Piece;
@@ -32,7 +32,7 @@ impl<'q> Search<'q> {
             };
             let near = Piece::between(self.question.text, first, broken.at, beginning);
             if let Some(near) = near {
-                if self.breaks_so::<R>(&near, assumed, broken)? {
+                if self.breaks_so::<R>(near, assumed, broken)? {
                     return Ok(near);
                 }
             }
@@ -43,7 +43,7 @@ impl<'q> Search<'q> {
     /// Whether a piece breaks so.
     pub(crate) fn breaks_so<R: Read + Drop>(
         &mut self,
-        piece: &Piece<'_>,
+        piece: Piece<'_>,
         assumed: Assumed,
         broken: Broken,
     ) -> Result<bool, Unasked> {
@@ -54,7 +54,7 @@ impl<'q> Search<'q> {
     /// Judges a piece; none where two sheets say different things of one key.
     fn judge<R: Read + Drop>(
         &mut self,
-        piece: &Piece<'_>,
+        piece: Piece<'_>,
         assumed: Assumed,
     ) -> Result<Option<Came>, Unasked> {
         if piece.len() > self.left {
@@ -94,7 +94,7 @@ impl<'q> Search<'q> {
         assumed: Assumed,
         basis: &Basis<'_>,
     ) -> Result<Option<Offer>, Unasked> {
-        let Some(came) = self.judge::<R>(&basis.near, assumed)? else {
+        let Some(came) = self.judge::<R>(basis.near, assumed)? else {
             return Ok(None);
         };
         let offer = Offer {
@@ -113,34 +113,40 @@ impl<'q> Search<'q> {
         supposed: Supposes,
     ) -> Result<Option<Offer>, Unasked> {
         for offer in offers {
-            if offer.supposes() == supposed {
-                let offer = self.on_all::<R>(*offer)?;
-                if offer.is_some_and(|offer| offer.end == End::Yes) {
-                    return Ok(offer);
-                }
+            if offer.supposes() != supposed {
+                continue;
+            }
+            let yes = self.yes::<R>(*offer)?;
+            if yes.is_some() {
+                return Ok(yes);
             }
         }
         Ok(None)
     }
 
-    /// The first of these that explains all; where that is another rate, with all rates that do.
-    pub(crate) fn yes_alone<R: Read + Drop>(
+    /// The first of these, each at another rate, that explains all, with all rates that do.
+    pub(crate) fn yes_at_rates<R: Read + Drop>(
         &mut self,
         offers: &[Offer],
     ) -> Result<Option<Offer>, Unasked> {
-        let mut found: Option<Offer> = None;
+        let mut found = None;
         for offer in offers {
-            match (found, self.on_all::<R>(*offer)) {
-                (Some(first), Ok(Some(also))) => found = Some(first.with_rate_of(&also)),
-                (None, Ok(Some(first))) if first.end == End::Yes => found = Some(first),
-                (None, Err(unasked)) => return Err(unasked),
-                _ => {}
-            }
-            if found.is_some_and(|found| found.assumed.sheet == Sheet::Without) {
-                break;
-            }
+            let yes = match self.yes::<R>(*offer) {
+                Ok(yes) => yes,
+                Err(unasked) if found.is_none() => return Err(unasked),
+                Err(_) => return Ok(found),
+            };
+            found = together(found, yes);
         }
         Ok(found)
+    }
+
+    /// This, where it explains all.
+    fn yes<R: Read + Drop>(&mut self, offer: Offer) -> Result<Option<Offer>, Unasked> {
+        match self.on_all::<R>(offer)? {
+            Some(offer) if offer.end == End::Yes => Ok(Some(offer)),
+            _ => Ok(None),
+        }
     }
 
     /// How all ends with it; none where it does not explain the break there, or where the capture speaks against its rate.
@@ -148,8 +154,7 @@ impl<'q> Search<'q> {
         if self.is_spoken_against::<R>(offer.assumed.rate) {
             return Ok(None);
         }
-        let whole = self.whole;
-        let Some(came) = self.judge::<R>(&whole, offer.assumed)? else {
+        let Some(came) = self.judge::<R>(self.whole, offer.assumed)? else {
             return Ok(None);
         };
         let offer = Offer {
@@ -184,6 +189,17 @@ impl<'q> Search<'q> {
             None => true,
             Some(further) => record_of(end) > record_of(further.end),
         }
+    }
+}
+
+/// The first, also at the rates of the second.
+fn together(first: Option<Offer>, second: Option<Offer>) -> Option<Offer> {
+    let Some(first) = first else {
+        return second;
+    };
+    match second {
+        Some(second) => Some(first.with_rates_of(&second)),
+        None => Some(first),
     }
 }
 

@@ -9,6 +9,7 @@ mod assumed;
 mod came;
 mod every_terms;
 mod first_asked;
+mod habit;
 mod invalid_time;
 mod judged_again;
 mod lists;

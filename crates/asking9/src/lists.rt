@@ -1,6 +1,7 @@
 //! What is assumed in turn.
 
-use crate::assumed::{Assumed, SHEETS, Sheet};
+use crate::assumed::{Assumed, Sheet};
+use crate::habit::Habit;
 use crate::question::{Question, is_of_time};
 use deck9::Hands;
 use info9::Fitting;
@@ -8,21 +9,29 @@ use program9::Broken;
 use std::alloc::{AllocError, Global};
 use tc25::Rate;
 
-/// One's own words without the sheets, and at each rate that may fit.
-pub(crate) fn alone(
+/// One's own words without the sheets; nothing where there are none, or where a time breaks the rule.
+pub(crate) fn without_sheets(
     alloc: Global,
     question: &Question<'_>,
     broken: Broken,
-    fits: Option<Fitting>,
 ) -> Result<Vec<Assumed>, AllocError> {
-    let own = question.own();
     let mut list = Vec::new(alloc);
     if !question.sheets.is_empty() && !is_of_time(broken) {
         list.push(Assumed {
             sheet: Sheet::Without,
-            ..own
+            ..question.own()
         })?;
     }
+    Ok(list)
+}
+
+/// At each rate that may fit.
+pub(crate) fn at_rates(
+    alloc: Global,
+    own: Assumed,
+    fits: Option<Fitting>,
+) -> Result<Vec<Assumed>, AllocError> {
+    let mut list = Vec::new(alloc);
     for rate in &Rate::ALL {
         if *rate != own.rate && may_fit(*rate, fits) {
             list.push(Assumed { rate: *rate, ..own })?;
@@ -69,9 +78,9 @@ pub(crate) fn with_hand(alloc: Global, basis: Assumed) -> Result<Vec<Assumed>, A
 /// With each sheet.
 fn with_sheet(alloc: Global, basis: Assumed) -> Result<Vec<Assumed>, AllocError> {
     let mut list = Vec::new(alloc);
-    for name in &SHEETS {
+    for habit in Habit::ALL {
         list.push(Assumed {
-            sheet: Sheet::Beside(name, None),
+            sheet: Sheet::Beside(habit, None),
             ..basis
         })?;
     }
@@ -82,13 +91,13 @@ fn with_sheet(alloc: Global, basis: Assumed) -> Result<Vec<Assumed>, AllocError>
 pub(crate) fn with_second(
     alloc: Global,
     basis: Assumed,
-    first: &'static str,
+    first: Habit,
 ) -> Result<Vec<Assumed>, AllocError> {
     let mut list = Vec::new(alloc);
-    for name in &SHEETS {
-        if *name != first {
+    for habit in Habit::ALL {
+        if habit != first {
             list.push(Assumed {
-                sheet: Sheet::Beside(first, Some(name)),
+                sheet: Sheet::Beside(first, Some(habit)),
                 ..basis
             })?;
         }

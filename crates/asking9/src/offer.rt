@@ -40,23 +40,21 @@ pub(crate) enum Supposes {
 impl Offer {
     /// How much it supposes.
     pub(crate) fn supposes(&self) -> Supposes {
-        match (self.assumed.sheet, self.assumed.hands) {
-            (Sheet::Beside(..), _) => match self.place {
+        match self.assumed.sheet {
+            Sheet::Beside(..) => match self.place {
                 Some(place) if place.is_said => Supposes::Little,
                 _ => Supposes::AHabit,
             },
-            (_, Hands::Allowed) => Supposes::AHand,
-            (_, Hands::None) => Supposes::Little,
+            Sheet::Own if self.assumed.hands == Hands::Allowed => Supposes::AHand,
+            Sheet::Own | Sheet::Without => Supposes::Little,
         }
     }
 
-    /// The same, and at the rate of another that is a yes too.
-    pub(crate) fn with_rate_of(&self, also: &Offer) -> Offer {
+    /// The same, also at the rates of another.
+    pub(crate) fn with_rates_of(&self, also: &Offer) -> Offer {
         let mut both = *self;
-        if also.end == End::Yes {
-            for (has, more) in both.rates.iter_mut().zip(also.rates) {
-                *has |= more;
-            }
+        for (has, more) in both.rates.iter_mut().zip(also.rates) {
+            *has |= more;
         }
         both
     }

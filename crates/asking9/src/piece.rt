@@ -52,12 +52,12 @@ impl<'t> Piece<'t> {
     }
 
     /// How many bytes are read to judge it.
-    pub(crate) fn len(&self) -> usize {
+    pub(crate) fn len(self) -> usize {
         self.header.len().saturating_add(self.lines.len())
     }
 
     /// What reads it, where a reader of this type would be.
-    pub(crate) fn reader<R: Read + Drop>(&self) -> Again<'t, R> {
+    pub(crate) fn reader<R: Read + Drop>(self) -> Again<'t, R> {
         Again::Cut(Cut::new(self.header, self.lines))
     }
 }

@@ -6,7 +6,7 @@
 
 use crate::assumed::{Assumed, Sheet};
 use crate::came::End;
-use crate::lists::{alone, with_hand, with_one, with_second};
+use crate::lists::{at_rates, with_hand, with_one, with_second, without_sheets};
 use crate::offer::{Offer, Supposes};
 use crate::piece::Piece;
 use crate::question::{Asked, PartStart, Question, Unasked, is_of_time};
@@ -90,7 +90,7 @@ impl<'q> Search<'q> {
             let Some(part) = Piece::between(self.question.text, first, at, beginning) else {
                 return Err(Unasked);
             };
-            if self.breaks_so::<R>(&part, own, asked.broken)? {
+            if self.breaks_so::<R>(part, own, asked.broken)? {
                 return Ok(part);
             }
         }
@@ -105,9 +105,14 @@ impl<'q> Search<'q> {
             broken: self.broken,
             near: self.near::<R>(own, self.broken)?,
         };
-        let alone = alone(self.alloc, &self.question, self.broken, self.fits)?;
-        let offers = self.offers::<R>(alone.as_slice(), &own)?;
-        if let Some(offer) = self.yes_alone::<R>(offers.as_slice())? {
+        let without = without_sheets(self.alloc, &self.question, self.broken)?;
+        let without = self.offers::<R>(without.as_slice(), &own)?;
+        if let Some(offer) = self.first_yes::<R>(without.as_slice(), Supposes::Little)? {
+            return Ok(Some(offer));
+        }
+        let rates = at_rates(self.alloc, own.assumed, self.fits)?;
+        let rates = self.offers::<R>(rates.as_slice(), &own)?;
+        if let Some(offer) = self.yes_at_rates::<R>(rates.as_slice())? {
             return Ok(Some(offer));
         }
         match self.basis_of_rate::<R>(own)? {

@@ -31,7 +31,7 @@ pub(crate) fn time_at<R: Read + Drop>(
         Beginning::FirstCommand
     };
     match Piece::between(question.text, first, at, beginning) {
-        Some(near) => last_time::<R>(alloc, &near, question),
+        Some(near) => last_time::<R>(alloc, near, question),
         None => Ok(None),
     }
 }
@@ -39,7 +39,7 @@ pub(crate) fn time_at<R: Read + Drop>(
 /// The last time of a piece that is not valid.
 fn last_time<R: Read + Drop>(
     alloc: Global,
-    near: &Piece<'_>,
+    near: Piece<'_>,
     question: &Question<'_>,
 ) -> Result<Option<[u8; 4]>, Unasked> {
     let profile = Profile::at(question.rate, question.hands);
