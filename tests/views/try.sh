@@ -143,13 +143,16 @@ while IFS='|' read -r name words blocks line; do
     capture_of "$blocks"
     # shellcheck disable=SC2086
     "$program" why --quiet $words "$work/capture.csv" > "$work/want_out"
-    for way in file input; do
+    for way in file input pipe; do
         if [ $way = file ]; then
             # shellcheck disable=SC2086
             ask why $words "$work/capture.csv"
-        else
+        elif [ $way = input ]; then
             # shellcheck disable=SC2086
             ask why $words < "$work/capture.csv"
+        else
+            # shellcheck disable=SC2086
+            ask why $words < <(cat "$work/capture.csv")
         fi
         judge "$name, $way: what why writes" cmp "$work/out" "$work/want_out"
         judge "$name, $way: its status" [ "$status" = 1 ]

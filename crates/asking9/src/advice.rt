@@ -23,24 +23,44 @@ pub(crate) fn put_first<R: Read + Drop>(
     Ok(time)
 }
 
+/// What there is to say of a break: the time that is not valid, where that is why it breaks, and what explains it.
+pub(crate) struct Wrong {
+    pub(crate) time: Option<[u8; 4]>,
+    pub(crate) found: Result<Option<Offer>, Unasked>,
+}
+
+/// What explains a break of a capture, whose text was kept or not.
+pub(crate) fn found_in<R: Read + Drop>(
+    alloc: Global,
+    question: &Question<'_>,
+    asked: &Asked,
+    is_kept: bool,
+) -> Result<Option<Offer>, Unasked> {
+    if is_kept {
+        explanation::<R>(alloc, *question, *asked)
+    } else {
+        Err(Unasked)
+    }
+}
+
 /// Puts what explains the break, behind the time that is not valid there. Where that can't be asked, it is said of the time at which rates
 /// it is valid, and without one there is an error.
-pub(crate) fn put_found<R: Read + Drop>(
+pub(crate) fn put_found(
     alloc: Global,
     line: &mut Vec<u8>,
     question: &Question<'_>,
     asked: &Asked,
-    time: Option<[u8; 4]>,
+    wrong: Wrong,
 ) -> Result<(), Unasked> {
+    let Wrong { time, found } = wrong;
     let Some(time) = time else {
-        let found = explanation::<R>(alloc, *question, *asked)?;
-        return put_explanation(alloc, line, question, asked, found);
+        return put_explanation(alloc, line, question, asked, found?);
     };
     if is_never_valid(time) {
         return Ok(());
     }
     put_text(line, "; ")?;
-    match explanation::<R>(alloc, *question, *asked) {
+    match found {
         Ok(Some(offer)) => offer.put(alloc, line, question, asked),
         Ok(None) => Ok(put_text(line, "no other frame rate fits")?),
         Err(_) => Ok(put_valid(line, time)?),
@@ -72,5 +92,6 @@ pub fn put_advice<R: Read + Drop>(
     asked: &Asked,
 ) -> Result<(), Unasked> {
     let time = put_first::<R>(alloc, line, question, asked)?;
-    put_found::<R>(alloc, line, question, asked, time)
+    let found = explanation::<R>(alloc, *question, *asked);
+    put_found(alloc, line, question, asked, Wrong { time, found })
 }

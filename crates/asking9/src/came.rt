@@ -51,20 +51,36 @@ struct Noted<'d> {
     place: Option<Place>,
 }
 
+impl Noted<'_> {
+    /// Notes an exchange, which begins with this record, unless one before it is of more use.
+    fn note(&mut self, exchange: &Exchange, first: u32) {
+        let is_said = match self.sheet {
+            Some(sheet) => says_of(sheet, exchange),
+            None => return,
+        };
+        let has_said = match &self.place {
+            Some(place) => place.is_said,
+            None => false,
+        };
+        if is_said || !has_said {
+            self.place = Some(place_of(exchange, self.before.saturating_add(first), is_said));
+        }
+    }
+}
+
+/// The place of an exchange, which begins with this record of the capture.
+fn place_of(exchange: &Exchange, record: u32, is_said: bool) -> Place {
+    Place {
+        record,
+        command: exchange.command,
+        head: exchange.block.head(),
+        is_said,
+    }
+}
+
 impl View for Noted<'_> {
     fn exchange(&mut self, seen: &SeenExchange<'_>) -> Result<(), JudgeError> {
-        let Some(sheet) = self.sheet else {
-            return Ok(());
-        };
-        let is_said = says_of(sheet, seen.exchange);
-        if is_said || !self.place.is_some_and(|place| place.is_said) {
-            self.place = Some(Place {
-                record: self.before.saturating_add(seen.first),
-                command: seen.exchange.command,
-                head: seen.exchange.block.head(),
-                is_said,
-            });
-        }
+        self.note(seen.exchange, seen.first);
         Ok(())
     }
 

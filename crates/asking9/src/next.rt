@@ -1,7 +1,7 @@
 //! What to ask next after a `why` that is a no: a line on standard error.
 ghost use Rattle.program9.specs.Judging.{IsHint};
 
-use crate::advice::{put_first, put_found};
+use crate::advice::{Wrong, found_in, put_first, put_found};
 use crate::first_asked::first_asked;
 use crate::question::{Asked, Question, Unasked};
 use program9::{Keeping, Message, Told};
@@ -46,9 +46,13 @@ fn line_of<R: Read + Drop>(
     put_text(&mut line, "next: ")?;
     let time = put_first::<R>(alloc, &mut line, &question, &asked)?;
     kept.read_rest();
-    let text = kept.text().unwrap_or(b"");
+    let (text, is_kept) = match kept.text() {
+        Ok(text) => (text, true),
+        Err(_) => (b"".as_slice(), false),
+    };
     let question = question_of(text, told);
-    put_found::<R>(alloc, &mut line, &question, &asked, time)?;
+    let found = found_in::<R>(alloc, &question, &asked, is_kept);
+    put_found(alloc, &mut line, &question, &asked, Wrong { time, found })?;
     put_text(&mut line, "\n")?;
     Ok(line)
 }
@@ -58,9 +62,9 @@ fn question_of<'q>(text: &'q [u8], told: Told<'q>) -> Question<'q> {
     Question {
         text,
         scope: told.scope,
-        rate: told.rate,
-        hands: told.hands,
-        sheets: told.sheets,
+        rate: told.with.rate,
+        hands: told.with.hands,
+        sheets: told.with.sheets,
     }
 }
 

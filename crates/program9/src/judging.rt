@@ -9,12 +9,12 @@ ghost use Rattle.program9.specs.Judging.{EndsJudged, HandsOn, IsJudgedWithRun, W
 use crate::again::Again;
 use crate::buffered::Buffered;
 use crate::ending::Outcome;
-use crate::maker::{Broken, Maker, Told};
+use crate::maker::{AskedWith, Maker, Told};
 use crate::next::{hinted, reading, worth_asking};
 use crate::status::{outcome, outcome_in_parts};
 use deck9::Profile;
 use judge9::{judge_for, judge_parts_for, judge_with_run_for};
-use report9::{Extent, JudgeError, RunVerdict, Scope, Verdict, View, write_run_for};
+use report9::{Extent, JudgeError, RunVerdict, Scope, Verdict, write_run_for};
 use std::alloc::Global;
 use std::io::{Read, Write};
 use words9::{Asked, ExportWords, Report};
@@ -78,7 +78,12 @@ pub fn judge_and_flush<R: Read + Drop, W: Write + Drop, M: Maker>(
             let judged = ended(out, judged);
             let broken = worth_asking(&judged);
             let kept = kept.filter(|_| broken.is_some());
-            let told = told_of(view, scope, &job, named, broken);
+            let told = Told {
+                view,
+                scope,
+                with: asked_with(&job, named),
+                broken,
+            };
             hinted(alloc, kept, told, outcome(&judged), maker)
         }
         Report::Parts(view) => {
@@ -90,30 +95,24 @@ pub fn judge_and_flush<R: Read + Drop, W: Write + Drop, M: Maker>(
             let reader = reading(alloc, reader, view, &job.asked, &mut kept);
             let judged = judge_parts_for(alloc, reader, out, view, beginning, &job.profile);
             let end = outcome_in_parts(&ended(out, judged));
-            let told = told_of(view, scope, &job, named, None);
+            let told = Told {
+                view,
+                scope,
+                with: asked_with(&job, named),
+                broken: None,
+            };
             hinted(alloc, kept, told, end, maker)
         }
         Report::Made(made) => maker.make(alloc, reader, out, made, job, named),
     }
 }
 
-/// What was told with this view of a capture that was judged so far, and broke so.
-fn told_of<'t>(
-    view: View,
-    scope: Scope,
-    job: &Job,
-    named: &'t Named,
-    broken: Option<Broken>,
-) -> Told<'t>
-    ensures { result.view ≡ view }
-{
-    Told {
-        view,
-        scope,
+/// What a job asks with, whose words name these sheets.
+fn asked_with<'t>(job: &Job, named: &'t Named) -> AskedWith<'t> {
+    AskedWith {
         rate: job.profile.rate,
         hands: job.profile.hands,
         sheets: named.sheet_texts.as_slice(),
-        broken,
     }
 }
 

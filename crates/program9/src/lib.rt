@@ -26,7 +26,7 @@ pub use ending::{
     End, Message, Notice, Outcome, RefusedExport, Refuser, Unopened, UnreadSheet, WhyUnopened,
 };
 pub use judging::{Job, Named, ended, judge_and_flush, verdict_of};
-pub use maker::{Broken, Maker, Told};
+pub use maker::{AskedWith, Broken, Maker, Told};
 pub use message::word_of;
 pub use next::is_worth_asking;
 pub use no_header::{FoundHeader, LooksLike, NoHeader};

@@ -21,6 +21,17 @@ pub struct Broken {
     pub reason: Reason,
 }
 
+/// What a capture was asked with.
+#[derive(Clone, Copy)]
+pub struct AskedWith<'t> {
+    /// The rate of the deck's time code.
+    pub rate: Rate,
+    /// Whether hands were allowed.
+    pub hands: Hands,
+    /// The texts of the sheets.
+    pub sheets: &'t [Vec<u8>],
+}
+
 /// What was told of a capture, and so what may be asked again.
 #[derive(Clone, Copy)]
 pub struct Told<'t> {
@@ -28,12 +39,8 @@ pub struct Told<'t> {
     pub view: View,
     /// How far the capture was judged, and from where on.
     pub scope: Scope,
-    /// The rate of the deck's time code that it was asked with.
-    pub rate: Rate,
-    /// Whether hands were allowed.
-    pub hands: Hands,
-    /// The texts of the sheets that it was asked with.
-    pub sheets: &'t [Vec<u8>],
+    /// What it was asked with.
+    pub with: AskedWith<'t>,
     /// The record that breaks, of a judging to the first break: where there may be something to ask next.
     pub broken: Option<Broken>,
 }
