@@ -35,26 +35,51 @@ fn line_of<R: Read + Drop>(
 ) -> Result<Vec<u8>, Unasked> {
     let mut kept = kept;
     let mut line = Vec::new(alloc);
+    let Some((asked, time)) = begin_line(alloc, &mut line, &kept, told)? else {
+        return Ok(line);
+    };
+    kept.read_rest();
+    end_line(alloc, &mut line, &kept, told, asked, time)?;
+    Ok(line)
+}
+
+/// Puts what is said by what was read already: after which break there is something to ask, and the time that is not valid there.
+fn begin_line<R: Read + Drop>(
+    alloc: Global,
+    line: &mut Vec<u8>,
+    kept: &Keeping<R>,
+    told: Told<'_>,
+) -> Result<Option<(Asked, Option<[u8; 4]>)>, Unasked> {
     let question = question_of(kept.text()?, told);
     let asked = match told.broken {
         Some(broken) => Asked::of_first(broken),
         None => match first_of::<R>(alloc, &question)? {
             Some(asked) => asked,
-            None => return Ok(line),
+            None => return Ok(None),
         },
     };
-    put_text(&mut line, "next: ")?;
-    let time = put_first::<R>(alloc, &mut line, &question, &asked)?;
-    kept.read_rest();
+    put_text(line, "next: ")?;
+    let time = put_first::<R>(alloc, line, &question, &asked)?;
+    Ok(Some((asked, time)))
+}
+
+/// Puts what explains the break, now that the capture is read to its end.
+fn end_line<R: Read + Drop>(
+    alloc: Global,
+    line: &mut Vec<u8>,
+    kept: &Keeping<R>,
+    told: Told<'_>,
+    asked: Asked,
+    time: Option<[u8; 4]>,
+) -> Result<(), Unasked> {
     let (text, is_kept) = match kept.text() {
         Ok(text) => (text, true),
         Err(_) => (b"".as_slice(), false),
     };
     let question = question_of(text, told);
     let found = found_in::<R>(alloc, &question, &asked, is_kept);
-    put_found(alloc, &mut line, &question, &asked, Wrong { time, found })?;
-    put_text(&mut line, "\n")?;
-    Ok(line)
+    put_found(alloc, line, &question, &asked, Wrong { time, found })?;
+    Ok(put_text(line, "\n")?)
 }
 
 /// What was asked of a capture with this text.
