@@ -218,7 +218,7 @@ END
 
 # What lies further back than is looked at first: a preset, 70,000 records of a poll, and another IN point.
 polls=8750
-smaller polls 8750 'polls between a preset and another IN point'
+smaller polls 300 'polls between a preset and another IN point'
 { records "$remote $preset"; records "$remote" "$polls" | tail -n +2 | awk -F, -v OFS=, '{ $1 += 100000; print }'; } > "$work/long.csv"
 last=$(tail -n 1 "$work/long.csv" | cut -d , -f 1)
 records 'C 60 10 70 D 74 10 00 00 00 11 95' | tail -n +2 | awk -F, -v OFS=, -v last="$last" '{ $1 += last + 20000; print }' >> "$work/long.csv"

@@ -76,11 +76,12 @@ impl Assumed {
         Ok(())
     }
 
-    /// The deck that does what the sheets of the program say alone; none where there is none of these.
-    pub(crate) fn shipped_deck(&self, alloc: Global) -> Result<Option<Deck>, Unasked> {
-        let mut texts = Vec::new(alloc);
-        self.push_shipped(alloc, &mut texts)?;
-        deck_of(alloc, texts)
+    /// The deck that does what the sheet of the program says alone that was added last; none where there is none of these.
+    pub(crate) fn added_deck(&self, alloc: Global) -> Result<Option<Deck>, Unasked> {
+        let Sheet::Beside(first, second) = self.sheet else {
+            return Ok(None);
+        };
+        deck_of(alloc, only_text(alloc, second.unwrap_or(first))?)
     }
 
     /// Puts the options beside those that it was asked with already, as ` with --rate 30` or ` without --deck`.
@@ -108,6 +109,13 @@ impl Assumed {
 /// The text of a sheet of the program.
 fn text_of(alloc: Global, habit: Habit) -> Result<Vec<u8>, AllocError> {
     Vec::from_slice(alloc, shipped(habit.name()).unwrap_or("").as_bytes())
+}
+
+/// The text of a sheet of the program alone.
+fn only_text(alloc: Global, habit: Habit) -> Result<Vec<Vec<u8>>, AllocError> {
+    let mut texts = Vec::new(alloc);
+    texts.push(text_of(alloc, habit)?)?;
+    Ok(texts)
 }
 
 /// The deck that does what these texts say together; none where two say different things of one key.

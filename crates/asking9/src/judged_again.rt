@@ -65,7 +65,7 @@ impl<'q> Search<'q> {
         let Some(profile) = assumed.profile(alloc, &self.question)? else {
             return Ok(None);
         };
-        let sheet = assumed.shipped_deck(alloc)?;
+        let sheet = assumed.added_deck(alloc)?;
         let came = judge_piece::<R>(alloc, piece, extent, &profile, sheet.as_ref())?;
         Ok(Some(came))
     }
