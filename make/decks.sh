@@ -30,7 +30,7 @@ ghost use Rattle.std.specs.Prelude.{◌≡◌, is_some};
 ghost use Rattle.program9.specs.Shipped.{is_shipped};
 
 /// The text of the sheet with this short name, if the program has it.
-pub fn shipped(name: &str) -> Option<&'static str>
+pub fn shipped_sheet(name: &str) -> Option<&'static str>
     ensures { is_some result ≡ is_shipped name.now }
 {
     match name {

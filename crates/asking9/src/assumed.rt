@@ -3,7 +3,7 @@
 use crate::habit::Habit;
 use crate::question::{Question, Unasked};
 use deck9::{Deck, Hands, Profile};
-use program9::shipped;
+use program9::shipped_sheet;
 use report9::{put_text, put_word};
 use sheet9::{SheetsError, read_sheets};
 use std::alloc::{AllocError, Global};
@@ -108,7 +108,7 @@ impl Assumed {
 
 /// The text of a sheet of the program.
 fn text_of(alloc: Global, habit: Habit) -> Result<Vec<u8>, AllocError> {
-    Vec::from_slice(alloc, shipped(habit.name()).unwrap_or("").as_bytes())
+    Vec::from_slice(alloc, shipped_sheet(habit.name()).unwrap_or("").as_bytes())
 }
 
 /// The text of a sheet of the program alone.

@@ -31,6 +31,6 @@ pub use message::word_of;
 pub use next::is_worth_asking;
 pub use no_header::{FoundHeader, LooksLike, NoHeader};
 pub use program::run_program;
-pub use shipped::shipped;
+pub use shipped::shipped_sheet;
 pub use status::{outcome, outcome_in_parts, outcome_refused};
 pub use want::Kept;

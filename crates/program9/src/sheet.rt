@@ -7,7 +7,7 @@ ghost use Rattle.program9.specs.Sheet.{AreTexts, EndsNotRead, EndsOther, EndsRea
 use crate::again::read_whole;
 use crate::ending::{ClashingSheets, Message, Outcome, Unopened, UnreadSheet};
 use crate::program::{not_opened, why_of};
-use crate::shipped::shipped;
+use crate::shipped::shipped_sheet;
 use deck9::Deck;
 use sheet9::{Clash, SheetsError, read_sheets};
 use std::alloc::{AllocError, Global};
@@ -139,7 +139,7 @@ fn read_one<G: Fn(&String) -> io::Result<S>, S: Read + Drop>(
     ensures text { IfOk result (λ text. IsTextOf (FnReturnsAt G.Fn opener.now) S.remaining file.now text.items) }
     ensures ends { IfErr result (EndsUnread (FnReturnsAt G.Fn opener.now) file.now) }
 {
-    if let Some(text) = shipped(file.as_str()) {
+    if let Some(text) = shipped_sheet(file.as_str()) {
         return match Vec::from_slice(alloc, text.as_bytes()) {
             Ok(text) => Ok(text),
             Err(_) => Err(Outcome::new(5, Message::NoMemory)),
