@@ -1,8 +1,11 @@
 //! The one loop over what a judging comes to, for every view.
-ghost use Rattle.std.specs.Prelude.{◌≡◌};
+ghost use Rattle.std.specs.Prelude.{◌≡◌, IfErr, None};
 ghost use Rattle.judge9.specs.History.{nothing_told};
 ghost use Rattle.judge9.specs.Standing.{CanGoOn, ShowsExchange, Stands};
+ghost use Rattle.judge9.specs.Working.Reporting.{IsAllTold};
 ghost use Rattle.judge9.specs.declared.event.Event.TheVariants as AnEvent;
+ghost use Rattle.report9.specs.declared.verdict.View.TheVariants as AView;
+ghost use Rattle.show9.specs.Showing.{IsChecked, IsOfView, ending_at};
 
 use block9::Reason;
 use capture9::LineByte;
@@ -32,20 +35,23 @@ impl Between {
     }
 }
 
-/// Judges the capture that the reader gives, and shows the view what it comes to: how it ends. The records are read once, and none is
-/// kept. Errors are those of the judging, and the view's own; after one the view is told of nothing more.
+/// Judges the capture that the reader gives, and shows the view what it comes to: how it ends, which is what `check` answers of this
+/// capture. The records are read once, and none is kept. Errors are those of the judging, and the view's own: `Err(Write)` where it could
+/// not write, and else `Err(OutOfMemory)`. After one the view is told of nothing more.
 pub fn show<R: Read + Drop, V: View>(
     alloc: Global,
     reader: R,
     view: &mut V,
     of: ViewOf<'_>,
-) -> Result<Ending, JudgeError> {
+) -> Result<Ending, JudgeError>
+    ensures { IsChecked of.scope of.profile.now (R.remaining reader) result }
+{
     let mut judging = Judging::new(alloc, reader, of.scope, of.profile)?;
     let shown = show_events(&mut judging, view, of);
     let ending = ending_of(&judging, of.scope.extent);
     drop(judging);
     shown?;
-    view.end(&ending)?;
+    of_view(view.end(&ending))?;
     Ok(ending)
 }
 
@@ -55,7 +61,9 @@ fn show_events<R: Read + Drop, V: View>(
     view: &mut V,
     of: ViewOf<'_>,
 ) -> Result<(), JudgeError>
-    requires { CanGoOn judging.old.stage judging.old.feed }
+    requires stands { Stands judging.old.scope judging.old.profile.now judging.old.feed.rows.rows nothing_told judging.old }
+    requires ready { CanGoOn judging.old.stage judging.old.feed }
+    ensures { IsAllTold AView.Verdict judging.old.scope judging.old.profile.now judging.old.feed.rows.rows result judging.new None None }
 {
     let mut between = Between::before_a_part(of.profile);
     'events: loop {
@@ -73,13 +81,15 @@ pub fn show_explained<R: Read + Drop, V: ExplainedView>(
     reader: R,
     view: &mut V,
     of: ViewOf<'_>,
-) -> Result<Ending, JudgeError> {
+) -> Result<Ending, JudgeError>
+    ensures { IsChecked of.scope of.profile.now (R.remaining reader) result }
+{
     let mut judging = Judging::new(alloc, reader, of.scope, of.profile)?;
     let shown = explain_events(alloc, &mut judging, view, of);
     let ending = ending_of(&judging, of.scope.extent);
     drop(judging);
     shown?;
-    view.end(&ending)?;
+    of_view(view.end(&ending))?;
     Ok(ending)
 }
 
@@ -92,22 +102,34 @@ fn explain_events<R: Read + Drop, V: ExplainedView>(
 ) -> Result<(), JudgeError>
     requires stands { Stands judging.old.scope judging.old.profile.now judging.old.feed.rows.rows nothing_told judging.old }
     requires ready { CanGoOn judging.old.stage judging.old.feed }
+    ensures { IsAllTold AView.Verdict judging.old.scope judging.old.profile.now judging.old.feed.rows.rows result judging.new None None }
 {
     let mut kept = Kept::new(alloc);
     let mut between = Between::before_a_part(of.profile);
     'events: loop {
         match judging.next()? {
-            Event::End => break,
+            Event::End => return Ok(()),
             event => {
                 let why = kept.follow(alloc, judging, event)?;
                 if let Some(why) = why {
-                    view.why(why, is_shown(event, of.stretch))?;
+                    of_view(view.why(why, is_shown(event, of.stretch)))?;
                 }
                 between = show_event(judging, view, of, event, between)?;
             }
         }
     }
-    Ok(())
+}
+
+/// What a view answered. A fault of the capture is the judging's alone to tell: one that a view made up counts as want of memory.
+fn of_view(told: Result<(), JudgeError>) -> Result<(), JudgeError>
+    ensures { IfErr result IsOfView }
+{
+    match told {
+        Err(JudgeError::Capture(_)) => Err(JudgeError::OutOfMemory),
+        Err(JudgeError::Write) => Err(JudgeError::Write),
+        Err(JudgeError::OutOfMemory) => Err(JudgeError::OutOfMemory),
+        Ok(()) => Ok(()),
+    }
 }
 
 /// Whether a late reply or a break lies in the stretch.
@@ -128,22 +150,25 @@ fn show_event<R: Read + Drop, V: View>(
     between: Between,
 ) -> Result<Between, JudgeError>
     requires { event ≡ AnEvent.Exchange → ShowsExchange judging.now.feed }
+    ensures { IfErr result IsOfView }
 {
     match event {
         Event::Exchange => {
             let seen = see_exchange(judging, between, of.stretch);
-            view.exchange(&seen)?;
+            of_view(view.exchange(&seen))?;
             Ok(Between {
                 known: Some(seen.after),
                 going: seen.going,
             })
         }
         Event::LateReply(first) => {
-            view.late(&see_break(judging, first, Reason::LateReply, of.stretch))?;
+            let seen = see_break(judging, first, Reason::LateReply, of.stretch);
+            of_view(view.late(&seen))?;
             Ok(between)
         }
         Event::Break(broken) => {
-            view.broken(&see_break(judging, broken.record, broken.reason, of.stretch))?;
+            let seen = see_break(judging, broken.record, broken.reason, of.stretch);
+            of_view(view.broken(&seen))?;
             Ok(Between::before_a_part(of.profile))
         }
         Event::End => Ok(between),
@@ -199,7 +224,9 @@ fn see_break<R: Read + Drop>(
 }
 
 /// What a judging that has ended comes to.
-fn ending_of<R: Read + Drop>(judging: &Judging<R>, extent: Extent) -> Ending {
+fn ending_of<R: Read + Drop>(judging: &Judging<R>, extent: Extent) -> Ending
+    ensures { result ≡ ending_at extent judging.now }
+{
     match extent {
         Extent::FirstBreak => Ending::Verdict(judging.verdict()),
         Extent::WholeCapture => Ending::Totals(judging.totals()),
