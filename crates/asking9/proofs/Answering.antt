@@ -5,7 +5,8 @@ use Rattle.deck9.specs.declared.deck.Deck.{Deck}
 use Rattle.report9.specs.declared.verdict.Scope.{Scope}
 use Rattle.asking9.specs.declared.answer.Answer.{Answer}
 use Rattle.asking9.specs.declared.terms.Terms.{Terms}
-use Rattle.asking9.specs.Asking.{AreAnswers, IsChecked, profile_with}
+use Rattle.asking9.specs.Asking.{AreAnswers, profile_with}
+use Rattle.show9.specs.Showing.{IsChecked}
 
 with_last : (scope : Scope) (deck : Option Deck) (text : List ℕ) (ts : List Terms) (answers : List Answer) (t : Terms) (a : Answer)
     → AreAnswers scope deck text ts answers → a.terms ≡ t → IsChecked scope (profile_with deck t) (Some text) a.ended

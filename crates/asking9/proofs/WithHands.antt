@@ -17,7 +17,8 @@ use Rattle.judge9.specs.Beginning.{judged_rows, passed_before}
 use Rattle.judge9.specs.Judging.{Answer, Answers}
 use Rattle.seen9.specs.declared.seen.Ending.TheVariants as ending
 use Rattle.asking9.specs.declared.terms.Terms.{Terms}
-use Rattle.asking9.specs.Asking.{IsChecked, IsCheckedFor, is_yes, profile_with}
+use Rattle.asking9.specs.Asking.{is_yes, profile_with}
+use Rattle.show9.specs.Showing.{IsChecked, IsCheckedFor}
 
 module _ (beginning : Beginning) (rate : Rate) (deck : Option Deck) (r e n : ℕ) where
   -- what it answers of a text

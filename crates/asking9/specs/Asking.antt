@@ -7,8 +7,6 @@ use Rattle.tc25.specs.declared.rate.Rate.{Rate}
 use Rattle.tc25.specs.declared.rate.Rate.TheVariants as rate
 use Rattle.capture9.specs.declared.error.CaptureKind.{CaptureKind}
 use Rattle.capture9.specs.declared.error.CaptureKind.TheVariants as kind
-use Rattle.capture9.specs.Fields.{greatest_limit}
-use Rattle.capture9.specs.Rows.{rows_within}
 use Rattle.deck9.specs.declared.deck.Deck.{Deck}
 use Rattle.deck9.specs.declared.profile.Profile.{Profile}
 use Rattle.deck9.specs.declared.state.Hands.{Hands}
@@ -16,21 +14,16 @@ use Rattle.deck9.specs.declared.state.Hands.TheVariants as hands
 use Rattle.report9.specs.declared.error.JudgeError.{JudgeError}
 use Rattle.report9.specs.declared.error.JudgeError.TheVariants as error
 use Rattle.report9.specs.declared.totals.Totals.{Totals}
-use Rattle.report9.specs.declared.verdict.Beginning.{Beginning}
-use Rattle.report9.specs.declared.verdict.Extent.{Extent}
-use Rattle.report9.specs.declared.verdict.Extent.TheVariants.{FirstBreak, WholeCapture}
 use Rattle.report9.specs.declared.verdict.Scope.{Scope}
 use Rattle.report9.specs.declared.verdict.Verdict.{Verdict}
 use Rattle.report9.specs.declared.verdict.Verdict.TheVariants as verdict
-use Rattle.report9.specs.declared.verdict.View.TheVariants as view
 use Rattle.report9.specs.Lines.{line_of, line_of_totals}
-use Rattle.judge9.specs.Judging.{Answers}
-use Rattle.judge9.specs.Report.{Told, by_totals}
 use Rattle.seen9.specs.declared.seen.Ending.{Ending}
 use Rattle.seen9.specs.declared.seen.Ending.TheVariants as ending
 use Rattle.asking9.specs.declared.answer.Answer.{Answer}
 use Rattle.asking9.specs.declared.terms.Terms.{Terms}
 use Rattle.program9.specs.Word.{word_of}
+use Rattle.show9.specs.Showing.{IsChecked}
 
 -- ---- what is asked with
 
@@ -73,28 +66,6 @@ abbrev pub words_of : Terms → List ℕ
 words_of t = codes "--rate " ++ rate_word t.rate ++ (if t.has_sheet then codes " --deck" else []) ++ hands_text t.hands
 
 -- ---- what is answered
-
--- how a judging to the first break, and one over all parts, ends
-abbrev pub by_verdict : Result Verdict JudgeError → Result Ending JudgeError
-by_verdict (Ok verdict) = Ok (ending.Verdict verdict)
-by_verdict (Err e) = Err e
-
-abbrev pub by_parts : Result Totals JudgeError → Result Ending JudgeError
-by_parts (Ok totals) = Ok (ending.Totals totals)
-by_parts (Err e) = Err e
-
--- a judging of this text, where it is known, as `check` judges it, ends so: to the first break it is the right verdict, and over all
--- parts the right totals
-abbrev pub IsCheckedFor : Extent → Beginning → Profile → Option (List ℕ) → Result Ending JudgeError → Type 0
-IsCheckedFor FirstBreak beginning profile text ended =
-    (judged : Result Verdict JudgeError) × Answers beginning profile text judged × (ended ≡ by_verdict judged)
-IsCheckedFor WholeCapture beginning profile text ended =
-    (judged : Result Totals JudgeError)
-    × Told view.Verdict (record { extent = WholeCapture; beginning = beginning }) profile (option_map (rows_within greatest_limit) text) (by_totals judged) None None
-    × (ended ≡ by_parts judged)
-
-abbrev pub IsChecked : Scope → Profile → Option (List ℕ) → Result Ending JudgeError → Type 0
-IsChecked scope profile text ended = IsCheckedFor scope.extent scope.beginning profile text ended
 
 -- these are the answers to these terms, one by one
 abbrev pub AreAnswers : Scope → Option Deck → List ℕ → List Terms → List Answer → Type 0

@@ -1,7 +1,8 @@
 //! What `check` answers where a capture is asked with some terms.
 ghost use Rattle.std.specs.Prelude.{◌≡◌, ◌++◌, IfSome, Ok, OnOk, codes, true};
 ghost use Rattle.seen9.specs.declared.seen.Ending.TheVariants as TheEnding;
-ghost use Rattle.asking9.specs.Asking.{IsChecked, first_line_after, first_line_of_fault, first_line_of_read, first_line_of_row, is_refused, is_yes, line_of_answer, said_of};
+ghost use Rattle.asking9.specs.Asking.{first_line_after, first_line_of_fault, first_line_of_read, first_line_of_row, is_refused, is_yes, line_of_answer, said_of};
+ghost use Rattle.show9.specs.Showing.{IsChecked};
 
 use crate::terms::Terms;
 use capture9::{CaptureError, CaptureKind};

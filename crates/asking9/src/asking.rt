@@ -2,7 +2,8 @@
 ghost use Rattle.std.specs.Prelude.{◌≡◌, ℕ, List, None, Option, Some, IfOk, IfSome};
 ghost use Rattle.deck9.specs.declared.deck.Deck.{Deck as ADeck};
 ghost use Rattle.report9.specs.declared.verdict.Scope.{Scope};
-ghost use Rattle.asking9.specs.Asking.{AreAnswers, IsChecked, all_terms, profile_with};
+ghost use Rattle.asking9.specs.Asking.{AreAnswers, all_terms, profile_with};
+ghost use Rattle.show9.specs.Showing.{IsChecked};
 
 use crate::answer::{Answer, check};
 use crate::every_terms::every_terms;

@@ -1,5 +1,5 @@
 -- How a judging ends that a view is shown: as `check` ends.
-use Rattle.std.specs.Prelude.{◌≡◌, ⊤, ⊥, ℕ, List, Option, None, Result, Ok, Err, option_map}
+use Rattle.std.specs.Prelude.{◌≡◌, ⊤, ℕ, List, Option, None, Result, Ok, Err, option_map}
 use Rattle.capture9.specs.Fields.{greatest_limit}
 use Rattle.capture9.specs.Rows.{rows_within}
 use Rattle.deck9.specs.declared.profile.Profile.{Profile}

@@ -44,7 +44,7 @@ pub fn show<R: Read + Drop, V: View>(
     view: &mut V,
     of: ViewOf<'_>,
 ) -> Result<Ending, JudgeError>
-    ensures { IsChecked of.scope of.profile.now (R.remaining reader) result }
+    ensures { IsChecked of.entry.scope of.entry.profile.now (R.remaining reader) result }
 {
     let mut judging = Judging::new(alloc, reader, of.scope, of.profile)?;
     let shown = show_events(&mut judging, view, of);
@@ -82,7 +82,7 @@ pub fn show_explained<R: Read + Drop, V: ExplainedView>(
     view: &mut V,
     of: ViewOf<'_>,
 ) -> Result<Ending, JudgeError>
-    ensures { IsChecked of.scope of.profile.now (R.remaining reader) result }
+    ensures { IsChecked of.entry.scope of.entry.profile.now (R.remaining reader) result }
 {
     let mut judging = Judging::new(alloc, reader, of.scope, of.profile)?;
     let shown = explain_events(alloc, &mut judging, view, of);
