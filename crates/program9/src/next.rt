@@ -68,7 +68,7 @@ pub(crate) fn hinted<R: Read + Drop, M: Maker>(
     end: Outcome,
     maker: &M,
 ) -> Outcome
-    ensures { IsHinted told.view end result }
+    ensures { IsHinted told.entry.view end result }
 {
     match told.view {
         View::Why => below_why(alloc, kept, told, end, maker),
