@@ -13,8 +13,8 @@ read_sheets-requires g c =
     let as_many = as_many_texts opens g.S.Read.remaining c.args.files.now (map (λ t. t.items) texts) c.in_ok-texts.ensures.texts in
     rw c.as_slice.ensures.value (omega (arith, some, as_many, length-map texts (λ t. t.items)))
 
-pub returns-clause-ends : goal.returns-clause-ends
-returns-clause-ends g c =
+pub returns-in-Err-clause-ends : goal.returns-in-Err-clause-ends
+returns-in-Err-clause-ends g c =
     let opens = FnReturnsAt g.G.Fn c.args.opener.now in
     let some : 0 < length c.args.files.now = grind (arith, nat_tests, c.is_empty.ensures, c.if-is_empty.false) in
     ends_read opens g.S.Read.remaining c.args.files.now c.told_of.result some (record {
