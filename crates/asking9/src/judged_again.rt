@@ -47,8 +47,10 @@ impl<'q> Search<'q> {
         assumed: Assumed,
         broken: Broken,
     ) -> Result<bool, Unasked> {
-        let came = self.judge::<R>(piece, assumed)?;
-        Ok(came.is_some_and(|came| came.end == End::Broken(broken)))
+        match self.judge::<R>(piece, assumed)? {
+            Some(came) => Ok(came.end == End::Broken(broken)),
+            None => Ok(false),
+        }
     }
 
     /// Judges a piece; none where two sheets say different things of one key.
