@@ -30,19 +30,24 @@ pub(crate) fn make_page<R: Read + Drop, W: Write>(
         Ok(text) => text,
         Err(e) => return unkept(&e),
     };
-    let page_of = PageOf {
-        text: text.as_slice(),
+    let page_of = page_of(text.as_slice(), job, named);
+    let of = view_of(job, Extent::WholeCapture);
+    let sheets = named.sheet_texts.as_slice();
+    let ending = write_page::<R, W>(alloc, writer, of, &page_of, sheets)?;
+    Ok(outcome_made(&Ok(ending)))
+}
+
+/// What a page says of the capture with this text, as the words name it.
+fn page_of<'p>(text: &'p [u8], job: &Job, named: &'p Named) -> PageOf<'p> {
+    PageOf {
+        text,
         file: named.file.as_ref().map(|file| file.as_bytes()),
         sheets: named.sheets.as_slice(),
         version: VERSION_LINE.as_bytes(),
         beginning: job.asked.beginning,
         stretch: job.asked.stretch,
         advice: None,
-    };
-    let of = view_of(job, Extent::WholeCapture);
-    let sheets = named.sheet_texts.as_slice();
-    let ending = write_page::<R, W>(alloc, writer, of, &page_of, sheets)?;
-    Ok(outcome_made(&Ok(ending)))
+    }
 }
 
 /// Judges the text of a page, which is read where a reader of this type would be, and writes the page: how the judging ends. These are the

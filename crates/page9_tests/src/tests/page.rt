@@ -19,6 +19,19 @@ const PLAYED: &str = "time_us,wire,byte\n\
 const SILENT: &str = "time_us,wire,byte\n\
     400,C,20\n800,C,01\n1200,C,21\n21200,C,20\n21600,C,01\n22000,C,21\n42000,C,20\n42400,C,01\n42800,C,21\n";
 
+/// What a page says of the capture with this text.
+fn named_page<'p>(text: &'p [u8], sheets: &'p [String], stretch: Stretch) -> PageOf<'p> {
+    PageOf {
+        text,
+        file: Some(b"a <b>.csv"),
+        sheets,
+        version: b"ninecheck 1.1.0\n",
+        beginning: Beginning::FirstRecord,
+        stretch,
+        advice: None,
+    }
+}
+
 /// The page of a capture, of which this stretch is shown.
 fn page_of(alloc: Global, text: &str, stretch: Stretch) -> Result<Vec<u8>, JudgeError> {
     let text = text.as_bytes();
@@ -26,15 +39,7 @@ fn page_of(alloc: Global, text: &str, stretch: Stretch) -> Result<Vec<u8>, Judge
     sheets
         .push(String::from_str(alloc, "\"deck\" & co")?)
         .map_err(|_| AllocError)?;
-    let page = PageOf {
-        text,
-        file: Some(b"a <b>.csv"),
-        sheets: sheets.as_slice(),
-        version: b"ninecheck 1.1.0\n",
-        beginning: Beginning::FirstRecord,
-        stretch,
-        advice: None,
-    };
+    let page = named_page(text, sheets.as_slice(), stretch);
     let profile = Profile::at(Rate::Fps30, Hands::None);
     let of = ViewOf {
         scope: Scope {
