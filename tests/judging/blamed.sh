@@ -33,7 +33,8 @@ jog|M1|||jog
 refused|yes|||
 rate|P7|rate||'
 
-# What to ask next: of each fault the word that says it, and how its only line of this begins; nothing where none is said.
+# What to ask next: of each fault the word that says it, and how its only line of this begins; nothing where none is said. RECORD is the
+# first of the command.
 advice='clocks|why|
 short|why|
 short|try|
@@ -50,12 +51,7 @@ unanswered|why|
 unanswered|try|
 disobeyed|why|
 refused|why|
-rate|why|next: [0-9:]* is not valid at --rate 25: the last frame is 24; it is valid at --rate 30 and --rate 29.97df'
-
-# The same once `why` and `try` ask with the sheets of the program and give one advice: RECORD is the first of the command.
-# They go into the table above then, and the last line of that, of the rate, goes.
-tries_sheets=false
-advice_of_sheets='edit|why|next: yes with --deck 9pin (AUTO EDIT at record RECORD)
+edit|why|next: yes with --deck 9pin (AUTO EDIT at record RECORD)
 edit|try|yes with .*--deck 9pin
 ejected|why|next: yes with --deck eject (EJECT at record RECORD)
 ejected|try|yes with .*--deck eject
@@ -64,10 +60,8 @@ jog|try|yes with .*--deck jog
 preset|try|
 rate|why|next: .*--rate 29.97df
 rate|try|yes with --rate 29.97df'
-! $tries_sheets || advice=$advice$'\n'$advice_of_sheets
 
-# The same once the page suspects the tap by the signs of the capture alone: these faults are the deck's.
-suspects_by_signs=false
+# These faults are the deck's: the page suspects no tap.
 not_suspected='late unanswered'
 
 # ask WORDS...: the program; its streams are left in $work/out and $work/err.
@@ -110,7 +104,6 @@ judge_page() {
     judge "$name: what was not obeyed" [ "$(sed -n 's,^<p class="lead"><a href="#look">\(.*\)</a>.*,\1,p' "$work/out")" = "$obeyed" ]
     sed -n '/Look at the capture first/,/<\/ul>/s/^<li>\(.*\), at record .*/\1/p' "$work/out" > "$work/signs"
     judge "$name: the signs of its page" [ "$(cat "$work/signs")" = "$sign" ]
-    $suspects_by_signs || return
     case " $not_suspected " in *" $fault "*) judge "$name: the tap is not suspected" eval '! grep -q "Suspect the tap" "$work/out"' ;; esac
 }
 

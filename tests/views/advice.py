@@ -39,32 +39,30 @@ def at_rate(words, rate):
 
 # ---- What is said on standard error, and by `info`. Each takes what the form found, and the words that were asked with.
 
-# The words of the terms that are a yes, in which `--deck` alone stands for all sheets that were given.
+# The words that were asked with, and those that are to be added: another rate takes the place of one's own.
+def with_terms(words, terms):
+    added = shlex.split(terms)
+    return [*(at_rate(words, '25')[:-2] if '--rate' in added else words), *added]
+
+# The terms that are a yes, in which `--deck` alone stands for all sheets that were given.
 def makes_a_yes(found, words, capture):
-    for terms in re.split(', or with ', re.sub(r' \(.*\)$', '', found[1])):
-        status, told = verdicts(shlex.split(re.sub(r'--deck(?= --|$)|beside your own', ' '.join(named_sheets()), terms)), capture)
+    for terms in re.split(', or with |,? and (?=--rate)|, (?=--rate)', re.sub(r' \(.*\)$', '', found[1])):
+        terms = re.sub(r'--deck(?= --|$)|beside your own', ' '.join(named_sheets()), terms)
+        status, told = verdicts(with_terms(words, terms), capture)
         judge(f'{capture} {words}: a yes with {terms}', status == 0 and told[-1].startswith('yes: '), *told)
 
 def named_sheets():
     return [word for sheet in sheets for word in ('--deck', sheet)]
 
-# The time that was not valid is one at these rates: no such record breaks P6 or P7.
-def is_valid_at(found, words, capture):
-    broken = [line for line in verdicts(words, capture)[1] if re.search(': P[67] ', line)]
-    for rate in re.findall(r'--rate (\S+?)(?=,| and|$)', found[1]):
-        told = verdicts(at_rate(words, rate), capture)[1]
-        judge(f'{capture} {words}: valid at {rate}', broken and broken[0] not in told, *told)
-
 # That record breaks no rule with these words.
 def keeps_the_rules(found, words, capture):
-    options = shlex.split(re.sub(r' \(.*| beside .*|; .*', '', found[2]))
+    options = with_terms(words, re.sub(r' \(.*| beside .*|; .*', '', found[2]))
     told = verdicts(['--all', *options], capture)[1]
     breaks = [line for line in told if line.startswith(f'no at record {found[1]}: ')]
     judge(f'{capture} {words}: record {found[1]} with {options}', not breaks, *breaks)
 
-# Of a frame rate that is without a hand.
 def nothing_is_a_yes(found, words, capture):
-    told = [line for line in lines_of(ask('try', *words, capture).stdout) if found[1] != 'other frame rate' or '--hands' not in line]
+    told = lines_of(ask('try', *words, capture).stdout)
     judge(f'{capture} {words}: nothing makes it a yes', told and not any(': yes: ' in line for line in told), *told)
 
 def is_rate(found, words, capture):
@@ -77,15 +75,13 @@ def is_sync(found, words, capture):
     judge(f'{capture} {words}: --sync', is_judged and not has_sign('begins inside traffic', synced, capture))
 
 SAID = [(r'(?:next: )?(?:.* is not valid at .*; )?yes with (.*)$', makes_a_yes),
-        (r'next: .* is not valid at --rate .*; it is valid at (.*)$', is_valid_at),
         (r'next: .* is not valid at any rate: ', None),
-        (r'next: (?:.*; )?record (\d+) keeps the rules with (.*)$', keeps_the_rules),
-        (r'next: (?:.*; )?(?:neither|no) (.*) makes it a yes', nothing_is_a_yes),
+        (r'(?:next: )?(?:.*; )?record (\d+) keeps the rules with (.*)$', keeps_the_rules),
+        (r'next: .*; no other frame rate fits$', None),
+        (r'next: no frame rate, hand on the panel or sheet of the program explains it', nothing_is_a_yes),
         (r'look at: rate, .*; ask with (.*)$', is_rate),
         (r'look at: .*; ask with (--sync)$', is_sync)]
 
-# What is not said yet.
-NOT_YET = [SAID[3][0]]
 # What a line that has none of these forms does not have.
 COMMAND = re.compile(r'ninecheck [a-z]|--[a-z]|^next: |^yes with ')
 
@@ -175,7 +171,7 @@ def main():
             judge_page(words, [], capture)
         judge_page([], ['--hands', '--from', '0.01'], capture)
     for form in [form for form, _ in SAID + ON_PAGE] + [doubt for _, doubt in DOUBTS]:
-        judge(f'a line of the form {form}', taken[form] > 0 or form in NOT_YET)
+        judge(f'a line of the form {form}', taken[form] > 0)
     print(f"{counts['passed']} passed, {counts['failed']} failed")
 
 main()

@@ -109,7 +109,7 @@ contradictions() {
     section "$remote $preset +60000400 $in_at_11"
     same 'a contradiction' "$(summaries)" \
         'r28: 00:01:00.011 record 28 M1 no run remains 3 replies contradict one another, over 1 min 0.0 s.'
-    same 'what is said of it' "$(sed -n '/^<details/,$p' "$work/out" | grep -m 1 '^<p>' | plain)" \
+    same 'what is said of it' "$(sed -n '/^<details/,$p' "$work/out" | grep '^<p>' | grep -v -m 1 'Ask next' | plain)" \
         'No deck can have given these replies together. Without any one of them, a deck can have given the others. What they disagree on is IN, and its bytes are marked.'
     same 'the list' "$(first_of ol | sed 's/<br>/ | /; s/<p / | &/' | plain | sed '/^$/d')" \
         '00:00:00.000 records 1 to 8 STATUS SENSE → STATUS says local no | 61 20 01 82 → 71 20 00 91 | 3.2 ms later, nothing between
