@@ -3,9 +3,9 @@
 #   drawn.py FOLDER SEED CLEAN FAULTS     writes so many clean sessions, and so many of each fault, as CSV; beside each NAME.csv.args has
 #                                         the word of the rate that it is asked with.
 import os, random, sys
-sys.path.insert(0, os.path.join(os.path.dirname(os.path.abspath(__file__)), '..', 'lib'))
-from faults import FAULTS
-from sessions import ASKED, RATES, clean, session, write
+sys.path.insert(0, os.path.join(os.path.dirname(os.path.abspath(__file__)), '..', '..', 'tests', 'lib'))
+from drawing.faults import FAULTS
+from drawing.sessions import ASKED, RATES, clean, session, write
 
 # How many exchanges some of them need.
 FEWEST = {'clocks': 200, 'behind': 200, 'crossed': 500}

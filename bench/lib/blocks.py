@@ -1,19 +1,8 @@
-# Blocks and traffic of which the measurements make their captures.
-import random
-
-def block(head, code, *data):
-    body = [head * 16 + len(data), code, *data]
-    return body + [sum(body) % 256]
-
-def bcd(n):
-    return n // 10 * 16 + n % 10
-
-# The four bytes of a time, by its frame of the day.
-def time_bytes(frames):
-    seconds = frames // 25
-    return [bcd(frames % 25), bcd(seconds % 60), bcd(seconds // 60 % 60), bcd(seconds // 3600 % 24)]
-
-ACK = block(1, 0x01)
+# Traffic of which the measurements make their captures. Blocks are those of tests/lib.
+import itertools, os, random, sys
+sys.path.insert(0, os.path.join(os.path.dirname(os.path.abspath(__file__)), '..', '..', 'tests', 'lib'))
+from deck.times import time_bytes
+from wire import ACK, bcd, block, write_records
 
 # What an editor asks and sets while it looks for an edit, of IN (0) or of OUT (1); the deck is in REMOTE, and IN is set.
 def mixed(turn, register=0):
@@ -35,14 +24,5 @@ def shuffled_presets(number):
 
 # Writes exchanges as a capture, a record every 400 microseconds, and at most so many records.
 def write(path, exchanges, most=None):
-    now = records = 0
-    with open(path, 'w') as text:
-        text.write('time_us,wire,byte\n')
-        for asked, answered in exchanges:
-            for wire, bytes_sent in (('C', asked), ('D', answered)):
-                for byte in bytes_sent:
-                    if records == most:
-                        return
-                    now += 400
-                    records += 1
-                    text.write('%d,%s,%02X\n' % (now, wire, byte))
+    records = ((400, wire, byte) for exchange in exchanges for wire, sent in zip('CD', exchange) for byte in sent)
+    write_records(path, itertools.islice(records, most))

@@ -1,12 +1,13 @@
 //! What judging a stretch of a capture comes to.
 
+use crate::answer::check;
 use crate::piece::Piece;
 use crate::question::Unasked;
-use block9::{Command, Exchange};
+use block9::{Command, Exchange, Reason};
 use deck9::{Deck, DeckRef, Effect, Forgotten, Mode, Profile};
 use program9::Broken;
-use report9::{Extent, JudgeError, Scope, Stretch};
-use seen9::{SeenBreak, SeenExchange, View, ViewOf};
+use report9::{Extent, JudgeError, Scope, Stretch, Verdict};
+use seen9::{Ending, SeenBreak, SeenExchange, View, ViewOf};
 use show9::show;
 use std::alloc::Global;
 use std::io::Read;
@@ -31,6 +32,17 @@ pub(crate) enum End {
     Broken(Broken),
     /// This row can't be read.
     BadRow(u32),
+}
+
+impl End {
+    /// Whether judging over all parts comes to the same first break, or to none, where judging to the first break ends so.
+    pub(crate) fn is_of_all_parts(self) -> bool {
+        match self {
+            End::Yes => true,
+            End::Broken(broken) => broken.reason != Reason::LateReply,
+            End::BadRow(_) => false,
+        }
+    }
 }
 
 /// What a judging comes to.
@@ -91,6 +103,42 @@ impl View for Noted<'_> {
             reason: broken.reason,
         });
         Err(JudgeError::Write)
+    }
+}
+
+/// How judging a piece of a capture ends for a deck of this profile. Nothing is shown of it, which costs less. Over all parts a late reply
+/// does not end it, and it may have more rows: then it is judged once more.
+pub(crate) fn end_of_piece<R: Read + Drop>(
+    alloc: Global,
+    piece: Piece<'_>,
+    extent: Extent,
+    profile: &Profile,
+) -> Result<End, Unasked> {
+    let end = first_end::<R>(alloc, piece, profile)?;
+    if extent == Extent::FirstBreak || end.is_of_all_parts() {
+        return Ok(end);
+    }
+    Ok(judge_piece::<R>(alloc, piece, extent, profile, None)?.end)
+}
+
+/// How judging a piece of a capture to its first break ends.
+pub(crate) fn first_end<R: Read + Drop>(
+    alloc: Global,
+    piece: Piece<'_>,
+    profile: &Profile,
+) -> Result<End, Unasked> {
+    let scope = Scope {
+        extent: Extent::FirstBreak,
+        beginning: piece.beginning,
+    };
+    match check(alloc, piece.reader::<R>(), scope, profile) {
+        Ok(Ending::Verdict(Verdict::No { at, reason })) => Ok(End::Broken(Broken {
+            at: piece.before.saturating_add(at),
+            reason,
+        })),
+        Ok(_) => Ok(End::Yes),
+        Err(JudgeError::Capture(e)) => Ok(End::BadRow(piece.before.saturating_add(e.row))),
+        Err(_) => Err(Unasked),
     }
 }
 

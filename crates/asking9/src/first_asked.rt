@@ -1,5 +1,7 @@
 //! The first break of a capture after which there is something to ask, where it is judged over all parts.
 
+use crate::came::{End, first_end};
+use crate::piece::Piece;
 use crate::question::{Asked, PartStart, Question, Unasked};
 use deck9::Profile;
 use program9::{Broken, is_worth_asking, text_again};
@@ -70,8 +72,23 @@ impl View for FirstAsked {
     }
 }
 
-/// The first break of a capture that is judged over all parts; none where there is nothing to ask after any.
+/// The first break of a capture that is judged over all parts; none where there is nothing to ask after any. Most often it is the first of
+/// all, and judging to that costs less.
 pub(crate) fn first_asked<R: Read + Drop>(
+    alloc: Global,
+    question: &Question<'_>,
+    profile: &Profile,
+) -> Result<Option<Asked>, Unasked> {
+    let whole = Piece::whole(question.text, question.scope.beginning);
+    match first_end::<R>(alloc, whole, profile)? {
+        End::Broken(broken) if is_worth_asking(broken.reason) => Ok(Some(Asked::of_first(broken))),
+        End::Yes => Ok(None),
+        _ => first_shown::<R>(alloc, question, profile),
+    }
+}
+
+/// The same, of all that is shown of the parts.
+fn first_shown<R: Read + Drop>(
     alloc: Global,
     question: &Question<'_>,
     profile: &Profile,

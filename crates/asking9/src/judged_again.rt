@@ -1,19 +1,39 @@
 //! What is judged again in the search: near a break first, and then all of the capture.
 
 use crate::assumed::Assumed;
-use crate::came::{Came, End, judge_piece};
+use crate::came::{Came, End, end_of_piece, judge_piece};
 use crate::offer::{Offer, Supposes, only_rate};
 use crate::piece::Piece;
 use crate::question::{Question, Unasked};
 use crate::search::{Basis, Search};
 use crate::seen_rate::fitting_instead;
+use deck9::{Deck, Profile};
 use program9::Broken;
-use report9::Beginning;
+use report9::{Beginning, Extent};
 use std::io::Read;
 use tc25::Rate;
 
 /// So many records before a break are looked at first, and so many where the cause lies further back.
-const NEAR: [u32; 2] = [65_536, 524_288];
+pub(crate) const NEAR: [u32; 2] = [65_536, 524_288];
+
+/// So many rule out most of what is assumed.
+const CLOSE: u32 = 4_096;
+
+/// The records up to a break from which on it comes as it does in the capture.
+#[derive(Clone, Copy)]
+pub(crate) struct Near<'q> {
+    pub(crate) records: Piece<'q>,
+    /// The last of them, where it comes so from those on too.
+    close: Option<Piece<'q>>,
+}
+
+/// What is assumed, as a deck.
+#[derive(Drop)]
+struct Supposed {
+    profile: Profile,
+    /// The sheet of the program alone that was added last, if there is one.
+    sheet: Option<Deck>,
+}
 
 impl<'q> Search<'q> {
     /// The records up to a break from which on it comes as it does in the capture.
@@ -21,12 +41,30 @@ impl<'q> Search<'q> {
         &mut self,
         assumed: Assumed,
         broken: Broken,
+    ) -> Result<Near<'q>, Unasked> {
+        let records = self.near_records::<R>(assumed, broken)?;
+        let before = broken.at.saturating_sub(records.before);
+        let last = records.without(before.saturating_sub(CLOSE));
+        let close = match last {
+            Some(close) => self
+                .breaks_so::<R>(close, assumed, broken)?
+                .then_some(close),
+            None => None,
+        };
+        Ok(Near { records, close })
+    }
+
+    /// The same, as many of them as are looked at.
+    fn near_records<R: Read + Drop>(
+        &mut self,
+        assumed: Assumed,
+        broken: Broken,
     ) -> Result<Piece<'q>, Unasked> {
-        let before = self.whole.before;
-        for records in NEAR {
-            let first = broken.at.saturating_sub(records);
-            let (first, beginning) = if first <= before {
-                (before.saturating_add(1), self.whole.beginning)
+        let whole = self.whole;
+        for count in NEAR {
+            let first = broken.at.saturating_sub(count);
+            let (first, beginning) = if first <= whole.before {
+                (whole.before.saturating_add(1), whole.beginning)
             } else {
                 (first, Beginning::FirstCommand)
             };
@@ -37,7 +75,12 @@ impl<'q> Search<'q> {
                 }
             }
         }
-        Ok(self.whole)
+        let is_known = self.question.scope.extent == Extent::FirstBreak;
+        if is_known || self.breaks_so::<R>(whole, assumed, broken)? {
+            Ok(whole)
+        } else {
+            Err(Unasked)
+        }
     }
 
     /// Whether a piece breaks so.
@@ -47,29 +90,48 @@ impl<'q> Search<'q> {
         assumed: Assumed,
         broken: Broken,
     ) -> Result<bool, Unasked> {
-        match self.judge::<R>(piece, assumed)? {
-            Some(came) => Ok(came.end == End::Broken(broken)),
+        match self.suppose(assumed)? {
+            Some(supposed) => Ok(self.end_of::<R>(piece, &supposed)? == End::Broken(broken)),
             None => Ok(false),
         }
     }
 
-    /// Judges a piece; none where two sheets say different things of one key.
+    /// What is assumed, as a deck; none where two sheets say different things of one key.
+    fn suppose(&self, assumed: Assumed) -> Result<Option<Supposed>, Unasked> {
+        let Some(profile) = assumed.profile(self.alloc, &self.question)? else {
+            return Ok(None);
+        };
+        let sheet = assumed.added_deck(self.alloc)?;
+        Ok(Some(Supposed { profile, sheet }))
+    }
+
+    /// Judges a piece, and looks for the commands at which this sheet says what the deck does.
     fn judge<R: Read + Drop>(
         &mut self,
         piece: Piece<'_>,
-        assumed: Assumed,
-    ) -> Result<Option<Came>, Unasked> {
-        if piece.len() > self.left {
-            return Err(Unasked);
-        }
-        self.left = self.left.saturating_sub(piece.len());
-        let (alloc, extent) = (self.alloc, self.question.scope.extent);
-        let Some(profile) = assumed.profile(alloc, &self.question)? else {
-            return Ok(None);
-        };
-        let sheet = assumed.added_deck(alloc)?;
-        let came = judge_piece::<R>(alloc, piece, extent, &profile, sheet.as_ref())?;
-        Ok(Some(came))
+        profile: &Profile,
+        sheet: Option<&Deck>,
+    ) -> Result<Came, Unasked> {
+        self.spend(piece)?;
+        let extent = self.question.scope.extent;
+        judge_piece::<R>(self.alloc, piece, extent, profile, sheet)
+    }
+
+    /// How judging a piece ends.
+    fn end_of<R: Read + Drop>(
+        &mut self,
+        piece: Piece<'_>,
+        supposed: &Supposed,
+    ) -> Result<End, Unasked> {
+        self.spend(piece)?;
+        let extent = self.question.scope.extent;
+        end_of_piece::<R>(self.alloc, piece, extent, &supposed.profile)
+    }
+
+    /// Takes a piece from what may still be judged, which it must not exceed.
+    fn spend(&mut self, piece: Piece<'_>) -> Result<(), Unasked> {
+        self.left = self.left.checked_sub(piece.len()).ok_or(Unasked)?;
+        Ok(())
     }
 
     /// Those of these that come past the break, as far as the records near it tell.
@@ -90,15 +152,22 @@ impl<'q> Search<'q> {
         Ok(offers)
     }
 
-    /// This, where it comes past the break, as far as the records near it tell.
+    /// This, where it comes past the break, as far as the records near it tell: the last of them first, since those are few.
     fn offer<R: Read + Drop>(
         &mut self,
         assumed: Assumed,
         basis: &Basis<'_>,
     ) -> Result<Option<Offer>, Unasked> {
-        let Some(came) = self.judge::<R>(basis.near, assumed)? else {
+        let Some(supposed) = self.suppose(assumed)? else {
             return Ok(None);
         };
+        if let Some(close) = basis.near.close {
+            if !is_past(self.end_of::<R>(close, &supposed)?, basis.broken) {
+                return Ok(None);
+            }
+        }
+        let (profile, sheet) = (&supposed.profile, supposed.sheet.as_ref());
+        let came = self.judge::<R>(basis.near.records, profile, sheet)?;
         let offer = Offer {
             assumed,
             place: came.place,
@@ -156,16 +225,14 @@ impl<'q> Search<'q> {
         if self.is_spoken_against::<R>(offer.assumed.rate) {
             return Ok(None);
         }
-        let Some(came) = self.judge::<R>(self.whole, offer.assumed)? else {
+        let Some(supposed) = self.suppose(offer.assumed)? else {
             return Ok(None);
         };
-        let offer = Offer {
-            end: came.end,
-            ..offer
-        };
-        if !is_past(came.end, self.broken) {
+        let end = self.end_of::<R>(self.whole, &supposed)?;
+        if !is_past(end, self.broken) {
             return Ok(None);
         }
+        let offer = Offer { end, ..offer };
         if offer.end != End::Yes && self.is_furthest(offer.end) {
             self.further = Some(offer);
         }

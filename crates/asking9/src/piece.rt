@@ -1,9 +1,12 @@
 //! A stretch of a capture that is judged by itself.
 
-use memchr::memchr;
+use memchr::{memchr, memchr_iter};
 use program9::{Again, Cut};
 use report9::Beginning;
 use std::io::Read;
+
+/// So many bytes are a block.
+const BLOCK: usize = 0x1000;
 
 /// Some lines of a capture, which are judged as a capture of their own.
 #[derive(Clone, Copy)]
@@ -51,6 +54,20 @@ impl<'t> Piece<'t> {
         })
     }
 
+    /// The records behind so many of the first; none where there are not so many, or where all would be left. A whole capture has its header
+    /// among its lines, and is not cut.
+    pub(crate) fn without(self, count: u32) -> Option<Piece<'t>> {
+        if count == 0 || self.header.is_empty() {
+            return None;
+        }
+        Some(Piece {
+            lines: self.lines.get(after_lines(self.lines, count)?..)?,
+            before: self.before.saturating_add(count),
+            beginning: Beginning::FirstCommand,
+            ..self
+        })
+    }
+
     /// How many bytes are read to judge it.
     pub(crate) fn len(self) -> usize {
         self.header.len().saturating_add(self.lines.len())
@@ -64,10 +81,25 @@ impl<'t> Piece<'t> {
 
 /// Where the line stands before which there are so many; none where there are fewer.
 fn after_lines(text: &[u8], count: u32) -> Option<usize> {
-    let mut at = 0usize;
-    for _ in 0..count {
+    let (mut at, left) = block_of(text, count);
+    for _ in 0..left {
         let line = memchr(b'\n', text.get(at..)?)?;
         at = at.saturating_add(line).saturating_add(1);
     }
     Some(at)
+}
+
+/// Where the block of a text begins in which so many lines have ended, and how many of them end in it. Line feeds are counted a block at a
+/// time, which takes a tenth of looking for each.
+fn block_of(text: &[u8], count: u32) -> (usize, u32) {
+    let (mut at, mut left) = (0usize, count);
+    for block in text.chunks(BLOCK) {
+        let ended = memchr_iter(b'\n', block).count() as u32;
+        if ended >= left {
+            break;
+        }
+        left = left.saturating_sub(ended);
+        at = at.saturating_add(block.len());
+    }
+    (at, left)
 }

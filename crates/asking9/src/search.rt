@@ -6,6 +6,7 @@
 
 use crate::assumed::{Assumed, Sheet};
 use crate::came::End;
+use crate::judged_again::{NEAR, Near};
 use crate::lists::{at_rates, with_hand, with_one, with_second, without_sheets};
 use crate::offer::{Offer, Supposes};
 use crate::piece::Piece;
@@ -26,7 +27,7 @@ const MOST_BESIDE: usize = 0x100_0000;
 pub(crate) struct Basis<'q> {
     pub(crate) assumed: Assumed,
     pub(crate) broken: Broken,
-    pub(crate) near: Piece<'q>,
+    pub(crate) near: Near<'q>,
 }
 
 /// A search.
@@ -72,7 +73,8 @@ pub(crate) fn explanation<R: Read + Drop>(
 }
 
 impl<'q> Search<'q> {
-    /// The part that a record ends.
+    /// The part that a record ends. A long one of which it is known where it begins is not judged: the records near the break tell whether
+    /// they are counted right.
     fn part_of<R: Read + Drop>(&mut self, asked: Asked) -> Result<Piece<'q>, Unasked> {
         let (own, at) = (self.question.own(), asked.broken.at);
         let ways = match asked.start {
@@ -90,7 +92,9 @@ impl<'q> Search<'q> {
             let Some(part) = Piece::between(self.question.text, first, at, beginning) else {
                 return Err(Unasked);
             };
-            if self.breaks_so::<R>(part, own, asked.broken)? {
+            let is_long = at.saturating_sub(first) > NEAR[0];
+            let is_known = is_long && !matches!(asked.start, PartStart::FromBreak(_));
+            if is_known || self.breaks_so::<R>(part, own, asked.broken)? {
                 return Ok(part);
             }
         }

@@ -9,7 +9,7 @@ use std::io::Read;
 use tc25::Rate;
 
 /// So many records are looked at for signs: enough for all that bear on the answers, and quickly read.
-const MOST_LOOKED_AT: u32 = 400_000;
+const MOST_LOOKED_AT: u32 = 200_000;
 
 /// What the first records of a capture show, where times are read at this rate.
 pub fn signs_of<R: Read + Drop>(

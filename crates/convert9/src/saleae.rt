@@ -221,7 +221,7 @@ impl Export<'_> {
             }
             let row = Row::of(self.alloc, &fields);
             last = row.number;
-            if self.columns.name.is_none() && has_same_fields(&fields, head.fields) {
+            if has_same_fields(&fields, head.fields) {
                 self.begin_file(&row)?;
             } else {
                 self.take(&row, kept)?;
@@ -232,6 +232,11 @@ impl Export<'_> {
 
     /// Goes on to the deck's file, whose header this row is.
     fn begin_file(&mut self, row: &Row<'_>) -> Result<(), ConvertFault> {
+        if self.columns.name.is_some() {
+            return Err(row.refused(
+                "a second header; a table that names its analyzers has both wires, so give one file: ",
+            ));
+        }
         if self.wire == Wire::Deck {
             return Err(row.refused("a third file begins: "));
         }

@@ -16,7 +16,8 @@ use std::io::{Read, Write};
 /// What the words say of an export of sigrok-cli, as they stand.
 #[derive(Clone, Copy)]
 pub struct SigrokWords<'a> {
-    /// The recording's number of samples a second, from 1 to 1,000,000,000.
+    /// The recording's number of samples a second, from 1 to 1,000,000,000; a `k`, `m` or `g` behind it stands for thousands, millions or
+    /// thousands of millions, as in sigrok-cli's own words.
     pub samplerate: Option<&'a [u8]>,
     /// The first time that is converted, in seconds from the first sample on.
     pub from: Option<&'a [u8]>,
@@ -64,14 +65,7 @@ pub fn convert_sigrok<R: Read + Drop, W: Write + Drop>(
     writer: W,
     words: SigrokWords<'_>,
 ) -> Result<(), ConvertFault> {
-    let Some(samplerate) = samplerate_of(words.samplerate) else {
-        return Err(refused_words(
-            alloc,
-            0,
-            "--samplerate SAMPLES_A_SECOND is missing, or wrong",
-            b"",
-        ));
-    };
+    let samplerate = check_samplerate(alloc, words.samplerate)?;
     let range = match TimeRange::named(words.from, words.to) {
         Ok(range) => range,
         Err(wrong) => return Err(refused_words(alloc, 0, wrong, b"")),
@@ -95,9 +89,34 @@ pub fn convert_sigrok<R: Read + Drop, W: Write + Drop>(
         .write(writer, lines.line(), range, Ties::ControllerFirst)
 }
 
+/// The number of samples a second that a word names, or what is wrong with it.
+fn check_samplerate(alloc: Global, word: Option<&[u8]>) -> Result<u64, ConvertFault> {
+    let word = word.unwrap_or(b"");
+    if word.is_empty() {
+        let missing =
+            "--samplerate N is missing: the recording's samples a second, such as 2000000 or 2m";
+        return Err(refused_words(alloc, 0, missing, b""));
+    }
+    match samplerate_of(word) {
+        Some(samplerate) => Ok(samplerate),
+        None => {
+            let wrong =
+                "--samplerate is no whole number from 1 to 1000000000, such as 2000000 or 2m: ";
+            Err(refused_words(alloc, 0, wrong, word))
+        }
+    }
+}
+
 /// The number of samples a second that a word names.
-fn samplerate_of(word: Option<&[u8]>) -> Option<u64> {
-    number_up_to(word?, MOST_SAMPLES)
+fn samplerate_of(word: &[u8]) -> Option<u64> {
+    let (digits, times) = match word {
+        [digits @ .., b'k' | b'K'] => (digits, 1_000),
+        [digits @ .., b'm' | b'M'] => (digits, 1_000_000),
+        [digits @ .., b'g' | b'G'] => (digits, 1_000_000_000),
+        digits => (digits, 1),
+    };
+    let samples = number_up_to(digits, MOST_SAMPLES)?.saturating_mul(times);
+    (samples <= MOST_SAMPLES).then_some(samples)
 }
 
 impl Export {

@@ -1,5 +1,6 @@
 -- How the program ends after something was made: its status, and what it says on standard error.
-use Rattle.std.specs.Prelude.{ℕ, None, Option, Some, Result, Ok, Err}
+use Rattle.std.specs.Prelude.{◌==◌, if◌then◌else◌, ℕ, None, Option, Some, Result, Ok, Err, String}
+use Rattle.std.specs.Global.{Global}
 use Rattle.convert9.specs.declared.fault.ConvertFault.{ConvertFault}
 use Rattle.convert9.specs.declared.fault.ConvertFault.TheVariants as convert
 use Rattle.convert9.specs.declared.fault.Refusal.{Refusal}
@@ -12,6 +13,8 @@ use Rattle.convert9.specs.declared.split.SplitFault.TheVariants as split
 use Rattle.report9.specs.declared.error.JudgeError.{JudgeError}
 use Rattle.seen9.specs.declared.drawn.Drawn.{Drawn}
 use Rattle.seen9.specs.declared.drawn.Drawn.TheVariants as drawn
+use Rattle.seen9.specs.declared.drawn.WhyNothing.{WhyNothing}
+use Rattle.seen9.specs.declared.drawn.WhyNothing.TheVariants as nothing
 use Rattle.seen9.specs.declared.seen.Ending.{Ending}
 use Rattle.seen9.specs.declared.seen.Ending.TheVariants as ending
 use Rattle.view9.specs.declared.clock.ClockFault.{ClockFault}
@@ -43,10 +46,15 @@ abbrev pub outcome_told : Result Unit JudgeError → Outcome
 outcome_told (Ok told) = record { status = 0; message = message.Nothing }
 outcome_told (Err e) = outcome_refused e
 
--- after a picture was drawn the end is that of the judging; where there is nothing to draw, the status is 2
+-- where there is nothing to draw the status is 0, since nothing breaks, or 2 where the words name a record that breaks nothing
+abbrev pub status_of_nothing : WhyNothing → ℕ
+status_of_nothing (nothing.NoBreakAt at) = 2
+status_of_nothing _ = 0
+
+-- after a picture was drawn the end is that of the judging; where there is nothing to draw, that is said
 abbrev pub outcome_drawn : Drawn → Outcome
 outcome_drawn (drawn.Picture end) = outcome_made (Ok end)
-outcome_drawn (drawn.Nothing why) = record { status = 2; message = message.NothingToDraw why }
+outcome_drawn (drawn.Nothing why) = record { status = status_of_nothing why; message = message.NothingToDraw why }
 
 -- of what a capture is kept for: the end is the one that this came to; after a refusal it is that of any judging
 abbrev pub outcome_kept : Result Outcome JudgeError → Outcome
@@ -59,26 +67,35 @@ status_of_wrong wrong.Words = 2
 status_of_wrong wrong.Export = 3
 status_of_wrong wrong.Part = 4
 
--- the end after this word refused something
-abbrev pub outcome_refused_by : Refuser → Refusal → Outcome
-outcome_refused_by by refusal = record { status = status_of_wrong refusal.wrong; message = message.Refused (record { by = by; line = refusal.line; text = refusal.text }) }
+-- the file that is told where something was refused in this line of it: none where the words alone are at fault
+abbrev pub file_told : Wrong → ℕ → Option (String Global) → Option (String Global)
+file_told wrong.Words line file = if (line == 0) then None else file
+file_told _ line file = file
+
+-- the end after this word refused something of this file
+abbrev pub outcome_refused_by : Refuser → Option (String Global) → Refusal → Outcome
+outcome_refused_by by file refusal =
+    record {
+      status = status_of_wrong refusal.wrong;
+      message = message.Refused (record { by = by; file = file_told refusal.wrong refusal.line file; line = refusal.line; text = refusal.text });
+    }
 
 -- what is said of the times of a log
 abbrev pub said_of : Notice → Said
 said_of notice.WholeNumbers = said.WholeNumbers
 said_of notice.Coarse = said.Coarse
 
--- after an export was to become a capture: the status is 0, and maybe there is a notice; else it is told what was wrong
-abbrev pub outcome_converted : Export → Result (Option Notice) ConvertFault → Outcome
-outcome_converted export (Ok None) = record { status = 0; message = message.Nothing }
-outcome_converted export (Ok (Some notice)) = record { status = 0; message = message.Notice (said_of notice) }
-outcome_converted export (Err (convert.Refused refusal)) = outcome_refused_by (by.Convert export) refusal
-outcome_converted export (Err convert.Read) = record { status = 4; message = message.TextFault }
-outcome_converted export (Err convert.Write) = record { status = 4; message = message.WriteFault }
-outcome_converted export (Err convert.OutOfMemory) = record { status = 5; message = message.NoMemory }
+-- after an export was to become a capture: the status is 0, and maybe there is a notice; else it is told what was wrong, and in which file
+abbrev pub outcome_converted : Export → Option (String Global) → Result (Option Notice) ConvertFault → Outcome
+outcome_converted export file (Ok None) = record { status = 0; message = message.Nothing }
+outcome_converted export file (Ok (Some notice)) = record { status = 0; message = message.Notice (said_of notice) }
+outcome_converted export file (Err (convert.Refused refusal)) = outcome_refused_by (by.Convert export) file refusal
+outcome_converted export file (Err convert.Read) = record { status = 4; message = message.TextFault }
+outcome_converted export file (Err convert.Write) = record { status = 4; message = message.WriteFault }
+outcome_converted export file (Err convert.OutOfMemory) = record { status = 5; message = message.NoMemory }
 
--- after a split that ended early so, whatever it left behind
-abbrev pub outcome_of_split : SplitFault → Outcome
-outcome_of_split (split.Refused refusal) = outcome_refused_by by.Split refusal
-outcome_of_split (split.Capture e) = capture_outcome e.kind e
-outcome_of_split split.OutOfMemory = record { status = 5; message = message.NoMemory }
+-- after a split of this file that ended early so, whatever it left behind
+abbrev pub outcome_of_split : Option (String Global) → SplitFault → Outcome
+outcome_of_split file (split.Refused refusal) = outcome_refused_by by.Split file refusal
+outcome_of_split file (split.Capture e) = capture_outcome e.kind e
+outcome_of_split file split.OutOfMemory = record { status = 5; message = message.NoMemory }

@@ -5,13 +5,15 @@ ghost use Rattle.maker9.specs.Making.{EndsConverted, EndsSplit};
 use crate::part_files::PartFiles;
 use crate::status::{outcome_converted, outcome_of_split, outcome_told};
 use convert9::{
-    ConvertFault, LogWords, Notice, SaleaeWords, SigrokWords, Split, SplitWords, convert_log,
-    convert_saleae, convert_sigrok, part_name, split_capture,
+    ConvertFault, LogWords, Notice, Refusal, SaleaeWords, SigrokWords, Split, SplitFault,
+    SplitWords, Wrong, convert_log, convert_saleae, convert_sigrok, part_name, split_capture,
 };
-use program9::{Again, Buffered, Followed, Message, Named, Outcome, ended};
+use program9::{
+    Again, BadRow, Buffered, FileRow, Followed, Message, Named, Outcome, ended, read_whole,
+};
 use report9::{JudgeError, write_all};
 use std::alloc::{AllocError, Global};
-use std::io::{Read, Write};
+use std::io::{self, Read, Write};
 use words9::Export;
 
 /// Makes a capture of the export that the reader gives, behind which the deck's file follows, where there is one: how that ends.
@@ -25,14 +27,82 @@ pub(crate) fn convert<R: Read + Drop, W: Write + Drop>(
 ) -> Outcome
     ensures { EndsConverted export result }
 {
-    let told = match &named.deck_text {
-        Some(text) => {
-            let both = Followed::new(reader, text.as_slice());
-            convert_export(alloc, Again::Followed(both), out, export, named)
+    match &named.deck_text {
+        Some(text) => convert_both(alloc, reader, text.as_slice(), out, export, named),
+        None => {
+            let told = convert_export(alloc, Again::Opened(reader), out, export, named);
+            outcome_converted(export, file_of(alloc, named), told)
         }
-        None => convert_export(alloc, Again::Opened(reader), out, export, named),
+    }
+}
+
+/// The same where the deck's file has this text. The other is kept, so that it is known in which of the two a line stands.
+fn convert_both<R: Read + Drop, W: Write + Drop>(
+    alloc: Global,
+    reader: R,
+    deck_text: &[u8],
+    out: &mut Buffered<W>,
+    export: Export,
+    named: &Named,
+) -> Outcome
+    ensures { EndsConverted export result }
+{
+    let first = match read_whole(alloc, reader) {
+        Ok(first) => first,
+        Err(e) => return outcome_converted(export, None, Err(fault_of(&e))),
     };
-    outcome_converted(export, told)
+    let both = Followed::new(first.as_slice(), deck_text);
+    match convert_export(alloc, Again::Followed(both), out, export, named) {
+        Err(ConvertFault::Refused(refusal)) => {
+            let lines = lines_in(first.as_slice());
+            let (file, refusal) = placed(alloc, named, lines, refusal);
+            outcome_converted(export, file, Err(ConvertFault::Refused(refusal)))
+        }
+        told => outcome_converted(export, None, told),
+    }
+}
+
+/// What is wrong where an export could not be read.
+fn fault_of(e: &io::Error) -> ConvertFault {
+    match e.kind() {
+        io::ErrorKind::OutOfMemory => ConvertFault::OutOfMemory,
+        _ => ConvertFault::Read,
+    }
+}
+
+/// How many lines a text has, one that has not ended among them.
+fn lines_in(text: &[u8]) -> u64 {
+    let ended = text.iter().filter(|byte| **byte == b'\n').count() as u64;
+    let is_inside_line = text.last().is_some_and(|last| *last != b'\n');
+    ended.saturating_add(u64::from(is_inside_line))
+}
+
+/// The file that a line stands in, where two were read of which the first has so many lines, and what was refused, with its line in that
+/// file.
+fn placed(
+    alloc: Global,
+    named: &Named,
+    first_lines: u64,
+    refusal: Refusal,
+) -> (Option<String>, Refusal) {
+    if refusal.line <= first_lines {
+        return (file_of(alloc, named), refusal);
+    }
+    let Refusal { line, wrong, text } = refusal;
+    let refusal = Refusal {
+        line: line.saturating_sub(first_lines),
+        wrong,
+        text,
+    };
+    (String::from_str(alloc, "the deck's file").ok(), refusal)
+}
+
+/// The file that the words name first. Where memory is refused for its name, it is not told.
+fn file_of(alloc: Global, named: &Named) -> Option<String> {
+    match &named.file {
+        Some(file) => String::from_str(alloc, file.as_str()).ok(),
+        None => None,
+    }
 }
 
 /// Makes a capture of the export that the reader gives, and answers what there is to say of it.
@@ -112,14 +182,32 @@ pub(crate) fn split<R: Read + Drop, W: Write + Drop, F: PartFiles>(
         name: Some(name),
         rows,
     };
+    if name.chars().any(|character| character.is_control()) {
+        return outcome_of_split(None, name_with_control(alloc));
+    }
     let make_part = |name: &str| files.create_new(name);
     let Split { parts, fault } = split_capture(alloc, reader, words, &make_part);
     match fault {
-        Some(fault) => with_left(alloc, outcome_of_split(fault), name, parts),
+        Some(fault) => {
+            let end = outcome_of_split(file_of(alloc, named), fault);
+            with_left(alloc, end, named, name, parts)
+        }
         None => {
             let told = write_names(alloc, out, name, parts);
             outcome_told(&ended(out, told))
         }
+    }
+}
+
+/// The fault of a name with a control character: the names of the parts are written, and a terminal would act on it.
+fn name_with_control(alloc: Global) -> SplitFault {
+    match String::from_str(alloc, "--to NAME has a control character") {
+        Ok(text) => SplitFault::Refused(Refusal {
+            line: 0,
+            wrong: Wrong::Words,
+            text,
+        }),
+        Err(_) => SplitFault::OutOfMemory,
     }
 }
 
@@ -143,16 +231,26 @@ fn write_names<W: Write>(
 }
 
 /// The same end, whose message also says which parts are left: so many. Where memory is refused for that, it is left out.
-fn with_left(alloc: Global, end: Outcome, name: &str, parts: u32) -> Outcome
+fn with_left(alloc: Global, end: Outcome, named: &Named, name: &str, parts: u32) -> Outcome
     ensures { result.status ≡ end.status }
 {
     if parts == 0 {
         return end;
     }
     let Outcome { status, message } = end;
+    let message = with_file(message, file_of(alloc, named));
     match left_text(alloc, &message, name, parts) {
         Ok(text) => Outcome::new(status, Message::Lines(text)),
         Err(_) => Outcome::new(status, message),
+    }
+}
+
+/// The same message, with the file whose row is bad or can't be read: behind lines of text the program does not add it.
+fn with_file(message: Message, file: Option<String>) -> Message {
+    match (message, file) {
+        (Message::Unreadable(fault), Some(file)) => Message::BadRow(BadRow { file, fault }),
+        (Message::ReadFault(row), Some(file)) => Message::CannotRead(FileRow { file, row }),
+        (message, _) => message,
     }
 }
 

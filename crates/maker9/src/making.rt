@@ -1,23 +1,27 @@
 //! What is made of a capture's events, or of a text, beside the reports.
-ghost use Rattle.std.specs.Prelude.{◌≡◌, IfOk};
-ghost use Rattle.maker9.specs.Making.{IsDrawn};
+ghost use Rattle.std.specs.Prelude.{◌≡◌, ℕ, IfOk, List, Ok, Some};
+ghost use Rattle.deck9.specs.declared.profile.Profile.{Profile as AProfile};
+ghost use Rattle.judge9.specs.Judging.{Answers};
+ghost use Rattle.maker9.specs.Making.{IsDrawn, IsDrawnOf, scope_for};
+ghost use Rattle.report9.specs.declared.verdict.Extent.TheVariants as AnExtent;
+ghost use Rattle.show9.specs.Showing.{IsChecked};
 
-use crate::status::outcome_drawn;
+use crate::status::{outcome_drawn, outcome_made};
 use crate::trying::unkept;
 use info9::write_info;
 use judge9::judge_with_run_for;
 use picture9::{Choice, Wanted, write_picture};
 use program9::{Job, Outcome, read_whole, text_again, verdict_of};
 use report9::{Extent, JudgeError, Scope, Stretch, TimeForm, Verdict, View};
-use seen9::{Drawn, Ending, ViewOf};
-use show9::{FewestMoves, show, show_explained};
+use seen9::{Drawn, Ending, ViewOf, WhyNothing};
+use show9::{FewestMoves, of_view, show, show_explained};
 use std::alloc::Global;
 use std::io::{BufReader, Read, Write};
 use view9::{ClockFault, Delays, Digest, Json, MotionText, Touches, write_clock, write_json_run};
 
 /// How far the job's judging goes, and from where on.
 pub(crate) fn scope_of(job: &Job, extent: Extent) -> Scope
-    ensures { result ≡ record { extent = extent; beginning = job.now.asked.beginning } }
+    ensures { result ≡ scope_for extent job.now }
 {
     Scope {
         extent,
@@ -26,7 +30,9 @@ pub(crate) fn scope_of(job: &Job, extent: Extent) -> Scope
 }
 
 /// What a view of the job is made of, whose judging goes so far.
-pub(crate) fn view_of(job: &Job, extent: Extent) -> ViewOf<'_> {
+pub(crate) fn view_of(job: &Job, extent: Extent) -> ViewOf<'_>
+    ensures { (result.scope ≡ scope_for extent job.entry.now) × (result.profile.now ≡ job.entry.now.profile) }
+{
     ViewOf {
         scope: scope_of(job, extent),
         stretch: job.asked.stretch,
@@ -41,7 +47,9 @@ pub(crate) fn write_digest<R: Read + Drop, W: Write>(
     reader: R,
     writer: &mut W,
     of: ViewOf<'_>,
-) -> Result<Ending, JudgeError> {
+) -> Result<Ending, JudgeError>
+    ensures { IsChecked of.entry.scope of.entry.profile.now (R.remaining reader) result }
+{
     let mut digest = Digest::new(alloc, writer, of.profile);
     show(alloc, reader, &mut digest, of)
 }
@@ -53,7 +61,9 @@ pub(crate) fn write_delays<R: Read + Drop, W: Write>(
     reader: R,
     writer: &mut W,
     of: ViewOf<'_>,
-) -> Result<Ending, JudgeError> {
+) -> Result<Ending, JudgeError>
+    ensures { IsChecked of.entry.scope of.entry.profile.now (R.remaining reader) result }
+{
     let mut delays = Delays::new(alloc, writer, of.profile);
     show(alloc, reader, &mut delays, of)
 }
@@ -65,7 +75,9 @@ pub(crate) fn write_motion<R: Read + Drop, W: Write>(
     reader: R,
     writer: &mut W,
     of: ViewOf<'_>,
-) -> Result<Ending, JudgeError> {
+) -> Result<Ending, JudgeError>
+    ensures { IsChecked of.entry.scope of.entry.profile.now (R.remaining reader) result }
+{
     let mut motion = MotionText::new(alloc, writer, of.profile);
     show(alloc, reader, &mut motion, of)
 }
@@ -79,7 +91,9 @@ pub(crate) fn write_json<R: Read + Drop, W: Write>(
     writer: &mut W,
     view: View,
     of: ViewOf<'_>,
-) -> Result<Ending, JudgeError> {
+) -> Result<Ending, JudgeError>
+    ensures { IsChecked of.entry.scope of.entry.profile.now (R.remaining reader) result }
+{
     let mut json = Json::new(alloc, writer, view, of);
     match view {
         View::Why => show_explained(alloc, reader, &mut json, of),
@@ -94,9 +108,11 @@ pub(crate) fn tell_json_run<R: Read + Drop, W: Write>(
     reader: R,
     writer: &mut W,
     job: &Job,
-) -> Result<Verdict, JudgeError> {
+) -> Result<Verdict, JudgeError>
+    ensures { Answers job.now.asked.beginning job.now.profile (R.remaining reader) result }
+{
     let run = judge_with_run_for(alloc, reader, job.asked.beginning, &job.profile)?;
-    write_json_run(alloc, writer, &run, &job.profile)?;
+    of_view(write_json_run(alloc, writer, &run, &job.profile))?;
     Ok(verdict_of(&run))
 }
 
@@ -107,7 +123,9 @@ pub(crate) fn tell_touches<R: Read + Drop, W: Write>(
     reader: R,
     writer: &mut W,
     job: &Job,
-) -> Result<Ending, JudgeError> {
+) -> Result<Ending, JudgeError>
+    ensures { IsChecked (scope_for AnExtent.FirstBreak job.now) job.now.profile (R.remaining reader) result }
+{
     let of = view_of(job, Extent::FirstBreak);
     let mut touches = Touches::new(alloc, writer, of.profile, &FewestMoves);
     show(alloc, reader, &mut touches, of)
@@ -145,7 +163,7 @@ pub(crate) fn draw<R: Read + Drop, W: Write>(
     scope: Scope,
     job: &Job,
 ) -> Result<Outcome, JudgeError>
-    ensures { IfOk result IsDrawn }
+    ensures { IfOk result (IsDrawn scope job.now.profile (R.remaining reader)) }
 {
     let text = match read_whole(alloc, reader) {
         Ok(text) => text,
@@ -164,9 +182,19 @@ pub(crate) fn draw<R: Read + Drop, W: Write>(
     let mut choice = Choice::new(job.asked.drawing.at);
     let ending = show_explained(alloc, text_again::<R>(text.as_slice()), &mut choice, of)?;
     let again = text_again::<R>(text.as_slice());
-    let drawn = match write_picture(alloc, again, writer, &choice, &wanted)? {
-        Some(why) => Drawn::Nothing(why),
-        None => Drawn::Picture(ending),
-    };
-    Ok(outcome_drawn(&drawn))
+    let nothing = write_picture(alloc, again, writer, &choice, &wanted)?;
+    Ok(outcome_drawn(&drawn_of(nothing, ending)))
+}
+
+/// What the drawing comes to, where the judging ended so. Of a capture that breaks there is a break to draw, so what is told of it is how the
+/// judging ended.
+fn drawn_of(nothing: Option<WhyNothing>, ending: Ending) -> Drawn
+    ensures { (scope : Scope) (profile : AProfile) (text : List ℕ) → IsChecked scope profile (Some text) (Ok ending)
+        → IsDrawnOf scope profile text result }
+{
+    match nothing {
+        Some(WhyNothing::NoBreakAt(at)) => Drawn::Nothing(WhyNothing::NoBreakAt(at)),
+        Some(why) if outcome_made(&Ok(ending)).status == 0 => Drawn::Nothing(why),
+        _ => Drawn::Picture(ending),
+    }
 }

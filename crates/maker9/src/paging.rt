@@ -1,6 +1,8 @@
 //! The page of a capture, with what to ask next after the first break where there is something to ask.
-ghost use Rattle.std.specs.Prelude.{IfOk};
-ghost use Rattle.maker9.specs.Making.{IsPaged};
+ghost use Rattle.std.specs.Prelude.{◌≡◌, IfOk, Ok, Some};
+ghost use Rattle.maker9.specs.Making.{IsPaged, scope_for};
+ghost use Rattle.report9.specs.declared.verdict.Extent.TheVariants as AnExtent;
+ghost use Rattle.show9.specs.Showing.{IsChecked};
 
 use crate::making::view_of;
 use crate::status::outcome_made;
@@ -24,7 +26,7 @@ pub(crate) fn make_page<R: Read + Drop, W: Write>(
     job: &Job,
     named: &Named,
 ) -> Result<Outcome, JudgeError>
-    ensures { IfOk result IsPaged }
+    ensures { IfOk result (IsPaged (scope_for AnExtent.WholeCapture job.now) job.now.profile (R.remaining reader)) }
 {
     let text = match read_whole(alloc, reader) {
         Ok(text) => text,
@@ -38,16 +40,23 @@ pub(crate) fn make_page<R: Read + Drop, W: Write>(
 }
 
 /// What a page says of the capture with this text, as the words name it.
-fn page_of<'p>(text: &'p [u8], job: &Job, named: &'p Named) -> PageOf<'p> {
+fn page_of<'p>(text: &'p [u8], job: &Job, named: &'p Named) -> PageOf<'p>
+    ensures { result.text ≡ text.entry }
+{
     PageOf {
         text,
-        file: named.file.as_ref().map(|file| file.as_bytes()),
+        file: named.file.as_ref().map(|file| name_alone(file.as_bytes())),
         sheets: named.sheets.as_slice(),
         version: VERSION_LINE.as_bytes(),
         beginning: job.asked.beginning,
         stretch: job.asked.stretch,
         advice: None,
     }
+}
+
+/// The name of a file without its folders, which are nobody else's business: a page is sent to others.
+fn name_alone(path: &[u8]) -> &[u8] {
+    path.split(|byte| *byte == b'/').last().unwrap_or(path)
 }
 
 /// Judges the text of a page, which is read where a reader of this type would be, and writes the page: how the judging ends. These are the
@@ -58,7 +67,9 @@ fn write_page<R: Read + Drop, W: Write>(
     of: ViewOf<'_>,
     page_of: &PageOf<'_>,
     sheets: &[Vec<u8>],
-) -> Result<Ending, JudgeError> {
+) -> Result<Ending, JudgeError>
+    ensures { IfOk result (λ ending. IsChecked of.entry.scope of.entry.profile.now (Some page_of.now.text.now) (Ok ending)) }
+{
     let text = page_of.text;
     let mut paged = Paged {
         page: Page::new(alloc, text_again::<R>(text), of, &FewestMoves)?,

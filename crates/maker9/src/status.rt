@@ -1,6 +1,6 @@
 //! From what was made to how the program ends.
 ghost use Rattle.std.specs.Prelude.{◌≡◌};
-ghost use Rattle.maker9.specs.Outcome.{said_of, outcome_converted, outcome_drawn, outcome_kept, outcome_made, outcome_of_split, outcome_refused_by, outcome_rewritten, outcome_told};
+ghost use Rattle.maker9.specs.Outcome.{file_told, said_of, outcome_converted, outcome_drawn, outcome_kept, outcome_made, outcome_of_split, outcome_refused_by, outcome_rewritten, outcome_told, status_of_nothing};
 
 use convert9::{ConvertFault, Notice, Refusal, SplitFault, Wrong};
 use program9::{
@@ -8,7 +8,7 @@ use program9::{
     outcome_refused,
 };
 use report9::JudgeError;
-use seen9::{Drawn, Ending};
+use seen9::{Drawn, Ending, WhyNothing};
 use view9::ClockFault;
 use words9::Export;
 
@@ -57,27 +57,42 @@ pub fn outcome_kept(told: Result<Outcome, JudgeError>) -> Outcome
     }
 }
 
-/// How the program ends after a picture was to be drawn: as [`outcome_made`] says of the judging, or with status 2 where there is
-/// nothing to draw. Takes no memory.
+/// How the program ends after a picture was to be drawn: as [`outcome_made`] says of the judging. Where there is nothing to draw the status
+/// is 0, since nothing breaks, or 2 where the words name a record that breaks nothing. Takes no memory.
 pub fn outcome_drawn(drawn: &Drawn) -> Outcome
     ensures { result ≡ outcome_drawn drawn.now }
 {
     match drawn {
         Drawn::Picture(ending) => outcome_made(&Ok(*ending)),
-        Drawn::Nothing(why) => Outcome::new(2, Message::NothingToDraw(*why)),
+        Drawn::Nothing(why) => Outcome::new(status_of(*why), Message::NothingToDraw(*why)),
     }
 }
 
-/// How the program ends after an export was to become a capture: with status 0, and maybe a notice; or with what was wrong. Takes no
-/// memory.
-pub fn outcome_converted(export: Export, told: Result<Option<Notice>, ConvertFault>) -> Outcome
-    ensures { result ≡ outcome_converted export told }
+/// The status where there is nothing to draw.
+fn status_of(why: WhyNothing) -> u8
+    ensures { result ≡ status_of_nothing why }
+{
+    match why {
+        WhyNothing::Yes | WhyNothing::NoPartBreaks => 0,
+        WhyNothing::NoBreakAt(_) => 2,
+    }
+}
+
+/// How the program ends after an export was to become a capture: with status 0, and maybe a notice; or with what was wrong, in this file.
+/// Takes no memory.
+pub fn outcome_converted(
+    export: Export,
+    file: Option<String>,
+    told: Result<Option<Notice>, ConvertFault>,
+) -> Outcome
+    ensures { result ≡ outcome_converted export file told }
 {
     match told {
         Ok(None) => Outcome::new(0, Message::Nothing),
         Ok(Some(notice)) => Outcome::new(0, Message::Notice(said_of(notice))),
         Err(ConvertFault::Refused(refusal)) => outcome_refused_by(
             Refuser::Convert(export),
+            file,
             refusal,
         ),
         Err(ConvertFault::Read) => Outcome::new(4, Message::TextFault),
@@ -86,29 +101,46 @@ pub fn outcome_converted(export: Export, told: Result<Option<Notice>, ConvertFau
     }
 }
 
-/// How the program ends after a split that ended early so, whatever it left behind. Takes no memory.
-pub fn outcome_of_split(fault: SplitFault) -> Outcome
-    ensures { result ≡ outcome_of_split fault }
+/// How the program ends after a split of this file that ended early so, whatever it left behind. Takes no memory.
+pub fn outcome_of_split(file: Option<String>, fault: SplitFault) -> Outcome
+    ensures { result ≡ outcome_of_split file fault }
 {
     match fault {
-        SplitFault::Refused(refusal) => outcome_refused_by(Refuser::Split, refusal),
+        SplitFault::Refused(refusal) => outcome_refused_by(Refuser::Split, file, refusal),
         SplitFault::Capture(e) => outcome_refused(&JudgeError::Capture(e)),
         SplitFault::OutOfMemory => Outcome::new(5, Message::NoMemory),
     }
 }
 
-/// How the program ends after this word refused something: with status 2 where the words are wrong, 3 where the export or the capture is,
-/// and 4 where a part can't be written.
-fn outcome_refused_by(by: Refuser, refusal: Refusal) -> Outcome
-    ensures { result ≡ outcome_refused_by by refusal }
+/// How the program ends after this word refused something of this file: with status 2 where the words are wrong, 3 where the export or the
+/// capture is, and 4 where a part can't be written.
+fn outcome_refused_by(by: Refuser, file: Option<String>, refusal: Refusal) -> Outcome
+    ensures { result ≡ outcome_refused_by by file refusal }
 {
     let status = match refusal.wrong {
         Wrong::Words => 2,
         Wrong::Export => 3,
         Wrong::Part => 4,
     };
-    let Refusal { line, text, .. } = refusal;
-    Outcome::new(status, Message::Refused(RefusedExport { by, line, text }))
+    let Refusal { line, wrong, text } = refusal;
+    let file = file_told(wrong, line, file);
+    let refused = RefusedExport {
+        by,
+        file,
+        line,
+        text,
+    };
+    Outcome::new(status, Message::Refused(refused))
+}
+
+/// The file that is told where something was refused in this line of it: none where the words alone are at fault.
+fn file_told(wrong: Wrong, line: u64, file: Option<String>) -> Option<String>
+    ensures { result ≡ file_told wrong line file }
+{
+    match wrong {
+        Wrong::Words if line == 0 => None,
+        _ => file,
+    }
 }
 
 /// What is said of the times of a log.

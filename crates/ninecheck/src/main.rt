@@ -8,9 +8,11 @@ mod source;
 use crate::maker::maker;
 use crate::source::Source;
 use program9::{End, Message, run_program};
+use std::alloc::{AllocError, Global};
+use std::fmt::Display;
 use std::process::ExitCode;
 use std::{env, fs, io};
-use words9::{WordsFault, rate_hint};
+use words9::{WordsFault, hint_for};
 
 fn main(rt: HostRuntime) -> ExitCode {
     let words = arguments(&rt);
@@ -49,14 +51,15 @@ fn arguments(rt: &HostRuntime) -> Result<Vec<String>, WordsFault> {
 /// Prints what there is to be said of the end. Nothing is left to be told where this can't be written either.
 fn tell(rt: &HostRuntime, end: &End) {
     let _ = match end {
-        End::Usage(Some(text)) => text.print(rt),
+        End::Usage(Some(text)) if text.use_stderr() => tell_plainly(rt, text, ""),
+        End::Usage(Some(help)) => help.print(rt),
         End::Usage(None) => eprintln!(rt;
             "error: a word of the command line is not UTF-8\npass a file with such a name on standard input: ninecheck check < FILE"
         ),
-        End::NoValue(text) => eprintln!(rt; "{text}"),
+        End::NoValue(text) => tell_plainly(rt, text, "\n"),
         End::Told(outcome) => match &outcome.message {
             Message::Nothing => Ok(()),
-            message => eprintln!(rt; "{message}"),
+            message => tell_plainly(rt, message, "\n"),
         },
     };
     if let Some(hint) = hint_of(rt, end) {
@@ -64,11 +67,30 @@ fn tell(rt: &HostRuntime, end: &End) {
     }
 }
 
-/// What is said below a usage error where the words name a frame rate that the program has another name for.
+/// Prints a text on standard error, and this behind it. Names and rows may hold anything: what a terminal would act on is shown as a
+/// question mark. Where memory is refused for that, the text stands as it is.
+fn tell_plainly<T: Display>(rt: &HostRuntime, text: &T, end: &str) -> io::Result<()> {
+    match plain(rt.alloc(), text) {
+        Ok(plain) => eprint!(rt; "{plain}{end}"),
+        Err(_) => eprint!(rt; "{text}{end}"),
+    }
+}
+
+/// A text without what a terminal acts on, but line feeds.
+fn plain<T: Display>(alloc: Global, text: &T) -> Result<String, AllocError> {
+    let mut plain = String::new(alloc);
+    for character in text.to_string(alloc)?.chars() {
+        let is_acted_on = character.is_control() && character != '\n';
+        plain.push(if is_acted_on { '?' } else { character })?;
+    }
+    Ok(plain)
+}
+
+/// What is said below a usage error that does not say what to do.
 fn hint_of(rt: &HostRuntime, end: &End) -> Option<&'static str> {
     let End::Usage(Some(text)) = end else {
         return None;
     };
     let words = arguments(rt).ok()?;
-    rate_hint(words.as_slice(), text)
+    hint_for(words.as_slice(), text)
 }

@@ -10,14 +10,14 @@ use Rattle.deck9.specs.declared.profile.Profile.{Profile}
 use Rattle.words9.specs.declared.task.Task.{Task}
 use Rattle.words9.specs.declared.task.WordsFault.{WordsFault}
 use Rattle.words9.specs.declared.task.WordsFault.TheVariants as words
-use Rattle.words9.specs.Words.{AsksVersion, IsNoTask, IsTaskOf, MayAskVersion, joined}
+use Rattle.words9.specs.Words.{AsksVersion, IsNoTask, IsNoValueOf, IsTaskOf, MayAskVersion, joined}
 use Rattle.program9.specs.declared.buffered.Buffered.{Buffered}
 use Rattle.program9.specs.declared.ending.End.{End}
 use Rattle.program9.specs.declared.ending.End.TheVariants as end
 use Rattle.program9.specs.declared.ending.Outcome.{Outcome}
 use Rattle.program9.specs.declared.judging.Job.{Job}
 use Rattle.program9.specs.declared.no_header.FoundHeader.{FoundHeader}
-use Rattle.program9.specs.Header.{with_header}
+use Rattle.program9.specs.Header.{with_file}
 use Rattle.program9.specs.Judging.{EndsJudged, Promise}
 use Rattle.program9.specs.Opening.{no_memory, outcome_unopened}
 use Rattle.program9.specs.Outcome.{told_after}
@@ -68,8 +68,8 @@ pub record EndsOpening {R S W : Type 0} (streams : Streams R S W) (task : Task) 
 abbrev pub EndsBefore : {R S W : Type 0} → Streams R S W → Task → Outcome → Type 0
 EndsBefore streams task end = EndsOther streams.opens_sheet streams.coming_sheet task.sheets.items task.export.deck_file end ⊎ EndsOpening streams task end
 
--- the judging of the task began, and ended; where the header is at fault, the end tells the file and what stands in the place of the
--- header: which bytes are shown of it is tested; and where memory was refused, it tells what the word keeps. If a write failed on the way,
+-- the judging of the task began, and ended; where the capture can't be read, the end tells the file, and where the header is at fault,
+-- what stands in its place: which bytes are shown of it is tested; and where memory was refused, it tells what the word keeps. If a write failed on the way,
 -- it failed with some kind of error, and this is the end then. No contract of a writer says when it fails, and how
 pub record EndsJudging {R S W : Type 0} (makes : Promise) (streams : Streams R S W) (task : Task) (out : W) (end : Outcome) (now : Option (List ℕ)) : Type 0 where
   pub reader : R
@@ -80,25 +80,26 @@ pub record EndsJudging {R S W : Type 0} (makes : Promise) (streams : Streams R S
   pub is_judged : EndsJudged makes job.asked.report job (streams.coming reader) (streams.contents out) judged now
   pub found : FoundHeader
   pub failed : Option ErrorKind
-  pub ends : end ≡ told_after failed (with_want (kept_by task.asked.report task.export.live) (with_header task.file found judged))
+  pub ends : end ≡ told_after failed (with_want (kept_by task.asked.report task.export.live) (with_file task.file found judged))
 
 -- the task was carried out, and this is the end: it ended before its judging, and nothing is written; or its judging ended
 abbrev pub EndsTask : {R S W : Type 0} → Promise → Streams R S W → Task → W → Outcome → Option (List ℕ) → Type 0
 EndsTask makes streams task out end now = (EndsBefore streams task end × Keeps (streams.contents out) now) ⊎ EndsJudging makes streams task out end now
 
--- the end where there is no task: the words are none, or ask for the version, or memory was refused
+-- the end where there is no task: the words are no command, or have a value that an option can't have, or ask for the version, or memory was
+-- refused
 abbrev pub EndsWithout : WordsFault → Option (List ℕ) → End → Option (List ℕ) → Type 0
 EndsWithout (words.Usage text) old told now = (told ≡ end.Usage text) × Keeps old now
 EndsWithout words.Version old told now = (outcome : Outcome) × (told ≡ end.Told outcome) × TellsVersion old outcome now
 EndsWithout (words.NoValue text) old told now = (told ≡ end.NoValue text) × Keeps old now
 EndsWithout words.NoMemory old told now = (told ≡ end.Told no_memory) × Keeps old now
 
--- the end of the program on these words: they are no command, or a time in them is none, and nothing is written; or memory was refused before a
--- task stood, and nothing is written; or they ask for the version, and that is told; or the task that they give was
--- carried out
+-- the end of the program on these words: they are no command, or one but for a value that an option can't have, and nothing is written; or
+-- memory was refused before a task stood, and nothing is written; or they ask for the version, and that is told; or the task that they
+-- give was carried out
 abbrev pub EndsWords : {R S W : Type 0} → Promise → Streams R S W → List (List ℕ) → W → End → Option (List ℕ) → Type 0
 EndsWords makes streams words out (end.Usage text) now = IsNoTask words × ¬ (AsksVersion words) × Keeps (streams.contents out) now
-EndsWords makes streams words out (end.NoValue text) now = Keeps (streams.contents out) now
+EndsWords makes streams words out (end.NoValue text) now = IsNoValueOf words text × Keeps (streams.contents out) now
 EndsWords makes streams words out (end.Told outcome) now =
     ((outcome ≡ no_memory) × Keeps (streams.contents out) now)
     ⊎ ((MayAskVersion words × TellsVersion (streams.contents out) outcome now)

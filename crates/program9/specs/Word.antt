@@ -1,5 +1,5 @@
 -- The words for what is wrong, for what was expected, and for why a file was not opened.
-use Rattle.std.specs.Prelude.{ℕ, ◌+◌, ◌==◌, if◌then◌else◌, List, Option, Some, None, String, codes}
+use Rattle.std.specs.Prelude.{ℕ, ◌+◌, ◌==◌, if◌then◌else◌, List, [], ◌∷◌, Option, Some, None, String, codes}
 use Rattle.std.specs.Global.{Global}
 use Rattle.std.specs.String.{string_bytes}
 use Rattle.capture9.specs.Fields.{most_rows}
@@ -54,6 +54,15 @@ refuser_word by.Split = codes "split"
 abbrev pub notice_text : Notice → List ℕ
 notice_text notice.WholeNumbers = codes "all times are whole numbers, and were read as seconds; --unit ms or --unit us reads a counter"
 notice_text notice.Coarse = codes "timestamps are coarser than 100 microseconds, so L1, L2 and B3 mean little"
+
+-- what to do where a capture that was not opened is called `-`
+abbrev pub dash_text : List ℕ → List ℕ
+dash_text (only ∷ []) = if only == 0x2D then codes "; leave it out to read standard input" else []
+dash_text _ = []
+
+abbrev pub dash_hint : Option (String Global) → List ℕ
+dash_hint (Some name) = dash_text (string_bytes name)
+dash_hint None = []
 
 -- what a file is called
 abbrev pub file_name_of : Option (String Global) → List ℕ

@@ -1,9 +1,12 @@
 //! How the program ends: its status, and what it says on standard error.
+ghost use Rattle.std.specs.Prelude.{◌≡◌};
+ghost use Rattle.program9.specs.Status.{usage_status};
 
 use crate::no_header::NoHeader;
 use crate::want::Kept;
 use capture9::CaptureError;
 use clap::Error;
+use clap::error::ErrorKind;
 use seen9::WhyNothing;
 use sheet9::Refusal as SheetRefusal;
 use words9::{Export, NoValue};
@@ -16,6 +19,8 @@ pub enum Message {
     Nothing,
     /// A row of the capture is bad, or its header. The kind is neither `Read` nor `OutOfMemory`.
     Unreadable(CaptureError),
+    /// The same of a row in a file.
+    BadRow(BadRow),
     /// The header of the capture is none, and this stands in its place.
     NoHeader(NoHeader),
     /// An export was refused, or a capture that was to be split, or the words for that.
@@ -29,6 +34,8 @@ pub enum Message {
     NothingToDraw(WhyNothing),
     /// The reader failed or was interrupted at this data row, counted from 1; 0 is the header.
     ReadFault(u32),
+    /// The same in a file.
+    CannotRead(FileRow),
     /// The capture was not opened. No result of `judge` ends so.
     CannotOpen(Unopened),
     /// The deck's sheet is none.
@@ -45,6 +52,24 @@ pub enum Message {
     NoMemory,
     /// It was refused to a word that keeps this, which may be too large.
     TooLarge(Kept),
+}
+
+/// A bad row of a capture.
+#[derive(Drop, PartialEq, Eq)]
+pub struct BadRow {
+    /// The file, by the name that the words give.
+    pub file: String,
+    /// What is wrong, and where. It is not the header.
+    pub fault: CaptureError,
+}
+
+/// A row of a file.
+#[derive(Drop, PartialEq, Eq)]
+pub struct FileRow {
+    /// The file, by the name that the words give.
+    pub file: String,
+    /// The data row, counted from 1; 0 is the header.
+    pub row: u32,
 }
 
 /// A file whose text is no deck sheet.
@@ -72,7 +97,10 @@ pub struct ClashingSheets {
 pub struct RefusedExport {
     /// Which word refused it.
     pub by: Refuser,
-    /// The line of the export, or of the capture, where it is.
+    /// The file that is at fault, by the name that the words give, or the deck's where two were read; none where it is standard input, or
+    /// where the words are at fault.
+    pub file: Option<String>,
+    /// The line of the export, or of the capture, where it is; 0 before the first.
     pub line: u64,
     /// What is wrong there.
     pub text: String,
@@ -126,9 +154,9 @@ pub enum WhyUnopened {
 /// How the program ends where its words are a command.
 #[derive(Drop, PartialEq, Eq)]
 pub struct Outcome {
-    /// The exit status: 0 yes, the version, or a capture that was made or cut; 1 no; 2 nothing to draw, or a wrong word of an export or a
-    /// split; 3 a capture, an export or a deck's sheet that can't be read; 4 a reader or a writer that failed, or a file that can't be
-    /// opened or made; 5 out of memory. (Words that are no command end with 2, and have no outcome.)
+    /// The exit status: 0 yes, the version, or a capture that was made or cut; 1 no; 2 a picture of a record that breaks nothing, or a wrong
+    /// word of an export or a split; 3 a capture, an export or a deck's sheet that can't be read; 4 a reader or a writer that failed, or a
+    /// file that can't be opened or made; 5 out of memory. (Words that are no command end with 2, and have no outcome.)
     pub status: u8,
     /// What is said on standard error.
     pub message: Message,
@@ -151,7 +179,7 @@ pub enum End {
     /// The words are no command, or they ask for help. The `Display` of the error, where there is one, is the text for
     /// the user; there is none where a word is not UTF-8.
     Usage(Option<Error>),
-    /// The words are a command, but for a time that is none. The `Display` is the text for the user.
+    /// The words are a command, but for a value that an option can't have. The `Display` is the text for the user.
     NoValue(NoValue),
     /// A status, and what is said on standard error.
     Told(Outcome),
@@ -161,13 +189,27 @@ impl End {
     ghost use Rattle.std.specs.Prelude.{◌≡◌};
     ghost use Rattle.program9.specs.Status.{status_of};
 
-    /// The exit status: 2 where the words are no command, and else that of the outcome.
+    /// The exit status: 0 where the words ask for help, 2 where they are no command, and else that of the outcome.
     pub fn status(&self) -> u8
         ensures { result ≡ status_of self.now }
     {
         match self {
-            End::Usage(_) | End::NoValue(_) => 2,
+            End::Usage(text) => usage_status(text),
+            End::NoValue(_) => 2,
             End::Told(outcome) => outcome.status,
         }
+    }
+}
+
+/// The exit status of words that `clap` does not take: 0 where they ask for help, and 2 else.
+fn usage_status(text: &Option<Error>) -> u8
+    ensures { result ≡ usage_status text.now }
+{
+    match text {
+        Some(text) => match text.kind() {
+            ErrorKind::DisplayHelp => 0,
+            _ => 2,
+        },
+        None => 2,
     }
 }

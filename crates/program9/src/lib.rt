@@ -23,7 +23,8 @@ mod want;
 pub use again::{Again, Cut, Followed, Keeping, read_whole, text_again};
 pub use buffered::Buffered;
 pub use ending::{
-    End, Message, Notice, Outcome, RefusedExport, Refuser, Unopened, UnreadSheet, WhyUnopened,
+    BadRow, End, FileRow, Message, Notice, Outcome, RefusedExport, Refuser, Unopened, UnreadSheet,
+    WhyUnopened,
 };
 pub use judging::{Job, Named, ended, judge_and_flush, verdict_of};
 pub use maker::{AskedWith, Broken, Maker, Told};

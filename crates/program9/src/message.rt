@@ -1,8 +1,8 @@
 //! The text of what is said on standard error.
 ghost use Rattle.std.specs.Prelude.{◌≡◌};
-ghost use Rattle.program9.specs.Word.{expected_of, file_name_of, first_line_of, notice_text, reason_of, refuser_word, word_of};
+ghost use Rattle.program9.specs.Word.{dash_hint, expected_of, file_name_of, first_line_of, notice_text, reason_of, refuser_word, word_of};
 
-use crate::ending::{ClashingSheets, Message, Notice, Refuser, WhyUnopened};
+use crate::ending::{ClashingSheets, Message, Notice, RefusedExport, Refuser, WhyUnopened};
 use crate::want::advice_of;
 use capture9::{CaptureKind, MOST_ROWS};
 use seen9::WhyNothing;
@@ -19,6 +19,28 @@ impl fmt::Display for ClashingSheets {
         let (file, key) = (self.file.as_str(), self.key.as_str());
         let earlier = self.earlier.as_str();
         write!(f, "{file}: {key}: said otherwise in {earlier}")
+    }
+}
+
+impl fmt::Display for RefusedExport {
+    ghost use Rattle.std.specs.Prelude.{Some};
+    ghost use Rattle.program9.specs.Text.{refused_text};
+
+    ghost output = { λ refused. Some (refused_text refused) };
+
+    fn fmt<W: fmt::Write>(&self, f: &mut fmt::Formatter<W>) -> fmt::Result {
+        let (word, line, text) = (refuser_word(self.by), self.line, self.text.as_str());
+        match &self.file {
+            Some(file) => {
+                let file = file.as_str();
+                if line == 0 {
+                    return write!(f, "ninecheck {word}: {file}: {text}");
+                }
+                write!(f, "ninecheck {word}: {file}: line {line}: {text}")
+            }
+            None if line == 0 => write!(f, "ninecheck {word}: {text}"),
+            None => write!(f, "ninecheck {word}: line {line}: {text}"),
+        }
     }
 }
 
@@ -39,6 +61,15 @@ impl fmt::Display for Message {
                     None => Ok(()),
                 }
             }
+            Message::BadRow(bad) => {
+                let (row, kind, file) = (bad.fault.row, bad.fault.kind, bad.file.as_str());
+                let (word, expected) = (word_of(kind), expected_of(kind, row));
+                write!(f, "unreadable at row {row}: {word}\n{file}: {expected}")?;
+                match &bad.fault.field {
+                    Some(field) => write!(f, "; the row has {field}"),
+                    None => Ok(()),
+                }
+            }
             Message::NoHeader(no) => {
                 let (file, found) = (file_name_of(&no.file), &no.found);
                 write!(
@@ -46,11 +77,7 @@ impl fmt::Display for Message {
                     "unreadable at row 0: header\n{file}: expected the header time_us,wire,byte; the first line is {found}"
                 )
             }
-            Message::Refused(refused) => {
-                let (word, line) = (refuser_word(refused.by), refused.line);
-                let text = refused.text.as_str();
-                write!(f, "ninecheck {word}: line {line}: {text}")
-            }
+            Message::Refused(refused) => refused.fmt(f),
             Message::Notice(notice) => {
                 let notice = notice_text(*notice);
                 write!(f, "ninecheck convert log: {notice}")
@@ -71,10 +98,17 @@ impl fmt::Display for Message {
                     "read fault at row {row}\nexpected a capture that can be read to its end, not a directory"
                 )
             }
+            Message::CannotRead(failed) => {
+                let (row, file) = (failed.row, failed.file.as_str());
+                write!(
+                    f,
+                    "read fault at row {row}\n{file}: expected a capture that can be read to its end, not a directory"
+                )
+            }
             Message::CannotOpen(unopened) => {
                 let (first, reason) = (first_line_of(unopened.why), reason_of(unopened.why));
-                let file = file_name_of(&unopened.file);
-                write!(f, "{first}\n{file}: {reason}")
+                let (file, hint) = (file_name_of(&unopened.file), dash_hint(&unopened.file));
+                write!(f, "{first}\n{file}: {reason}{hint}")
             }
             Message::UnreadableSheet(unread) => {
                 let (file, refusal) = (unread.file.as_str(), &unread.refusal);
@@ -181,6 +215,19 @@ fn file_name_of(file: &Option<String>) -> &str
     match file {
         Some(name) => name.as_str(),
         None => "standard input",
+    }
+}
+
+/// What to do where a capture that was not opened is called `-`, which other programs read standard input for.
+fn dash_hint<'a>(file: &Option<String>) -> &'a str
+    ensures { result.now ≡ dash_hint file.now }
+{
+    match file {
+        Some(name) => match name.as_bytes() {
+            [b'-'] => "; leave it out to read standard input",
+            _ => "",
+        },
+        None => "",
     }
 }
 

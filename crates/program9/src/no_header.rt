@@ -1,9 +1,9 @@
-//! A capture without its header: what stands in the place of it, and what that looks like.
+//! What is said of a file that can't be read; and of a capture without its header what stands in the place of it, and what that looks like.
 
 ghost use Rattle.std.specs.Prelude.{◌≡◌, ◌<◌, length};
-ghost use Rattle.program9.specs.Header.{fault_told, header_told, hint_of, with_header};
+ghost use Rattle.program9.specs.Header.{fault_told, hint_of, told_in, with_file};
 
-use crate::ending::{Message, Outcome};
+use crate::ending::{BadRow, FileRow, Message, Outcome};
 use crate::first_bytes::MARK;
 use capture9::{CaptureError, CaptureKind, ShownField};
 use std::fmt;
@@ -33,10 +33,22 @@ pub enum LooksLike {
     Empty,
     /// Rows of a capture, of which the header is missing.
     Rows,
+    /// A header with the three columns, in another order, in capital letters, or with something else.
+    Columns,
     /// A capture whose fields are parted by semicolons.
     Semicolons,
+    /// The same by tabs.
+    Tabs,
     /// Text in UTF-16, as an editor or a spreadsheet saves it.
     Utf16,
+    /// A file that is packed by gzip.
+    Gzip,
+    /// One that is packed by zip, as the workbook of a spreadsheet and the recording of an analyser are.
+    Zip,
+    /// Text in JSON.
+    Json,
+    /// A page, or other text in HTML or XML.
+    Markup,
     /// An export of a Saleae analyser.
     Saleae,
     /// What `sigrok-cli` prints.
@@ -61,21 +73,23 @@ impl fmt::Display for FoundHeader {
     }
 }
 
-/// The end of a judging of this file, which shows what stands in the place of the header where the header is at fault.
-pub(crate) fn with_header(end: Outcome, file: Option<String>, found: FoundHeader) -> Outcome
-    ensures { result ≡ with_header file found end }
+/// The end of a judging of this file, which is named where it can't be read; where the header is at fault, it is shown what stands in
+/// its place.
+pub(crate) fn with_file(end: Outcome, file: Option<String>, found: FoundHeader) -> Outcome
+    ensures { result ≡ with_file file found end }
 {
     let Outcome { status, message } = end;
-    Outcome::new(status, header_told(message, file, found))
+    Outcome::new(status, told_in(message, file, found))
 }
 
-/// What is said, with what stands in the place of the header where the header is at fault.
-fn header_told(said: Message, file: Option<String>, found: FoundHeader) -> Message
-    ensures { result ≡ header_told file found said }
+/// What is said of a file, with its name where it can't be read.
+fn told_in(said: Message, file: Option<String>, found: FoundHeader) -> Message
+    ensures { result ≡ told_in file found said }
 {
-    match said {
-        Message::Unreadable(e) => fault_told(e, file, found),
-        said => said,
+    match (said, file) {
+        (Message::Unreadable(e), file) => fault_told(e, file, found),
+        (Message::ReadFault(row), Some(file)) => Message::CannotRead(FileRow { file, row }),
+        (said, _) => said,
     }
 }
 
@@ -83,9 +97,10 @@ fn header_told(said: Message, file: Option<String>, found: FoundHeader) -> Messa
 fn fault_told(e: CaptureError, file: Option<String>, found: FoundHeader) -> Message
     ensures { result ≡ fault_told file found e }
 {
-    match e.kind {
-        CaptureKind::Header => Message::NoHeader(NoHeader { file, found }),
-        _ => Message::Unreadable(e),
+    match (e.kind, file) {
+        (CaptureKind::Header, file) => Message::NoHeader(NoHeader { file, found }),
+        (_, Some(file)) => Message::BadRow(BadRow { file, fault: e }),
+        (_, None) => Message::Unreadable(e),
     }
 }
 
@@ -108,21 +123,50 @@ fn first_line(first: &[u8]) -> &[u8] {
 
 /// What a capture looks like that begins with these bytes, the first line of which is this one.
 fn looks_of(first: &[u8], line: &[u8]) -> LooksLike {
-    if first.starts_with(b"\xFF\xFE") || first.starts_with(b"\xFE\xFF") {
-        return LooksLike::Utf16;
+    match first {
+        [0x1F, 0x8B, ..] => LooksLike::Gzip,
+        [b'P', b'K', 3, 4, ..] => LooksLike::Zip,
+        _ if is_utf16(first) => LooksLike::Utf16,
+        _ => line_looks(line),
     }
+}
+
+/// Whether a text is in UTF-16: with its mark, or by every other byte, which is 0 where a letter stands.
+fn is_utf16(first: &[u8]) -> bool {
+    match first {
+        [0xFF, 0xFE, ..] | [0xFE, 0xFF, ..] => true,
+        [one, 0, other, 0, ..] | [0, one, 0, other, ..] => *one != 0 && *other != 0,
+        _ => false,
+    }
+}
+
+/// What a capture looks like whose first line is this one.
+fn line_looks(line: &[u8]) -> LooksLike {
     match line {
         [] => LooksLike::Empty,
+        [b'<', ..] => LooksLike::Markup,
+        [b'{', ..] | [b'['] | [b'[', b'{' | b'[' | b'"', ..] => LooksLike::Json,
         _ if line.contains(&b';') => LooksLike::Semicolons,
         _ if has(line, b"start_time") || has(line, b"Time [s]") => LooksLike::Saleae,
         _ if has(line, b"uart-") => LooksLike::Sigrok,
         _ if has(line, b",C,") || has(line, b",D,") => LooksLike::Rows,
         _ if line.starts_with(MARK) => LooksLike::LateMark,
-        _ if line.first().is_some_and(u8::is_ascii_digit) && line.contains(&b' ') => {
-            LooksLike::SerialLog
-        }
+        _ if is_log(line) => LooksLike::SerialLog,
+        _ if line.contains(&b'\t') => LooksLike::Tabs,
+        _ if has_columns(line) => LooksLike::Columns,
         _ => LooksLike::Other,
     }
+}
+
+/// Whether a line begins as one of a serial log does: with a digit, which a bracket may stand before, and with a blank behind it.
+fn is_log(line: &[u8]) -> bool {
+    let begins = matches!(line, [b'0'..=b'9', ..] | [b'[', b'0'..=b'9', ..]);
+    begins && line.iter().any(|byte| matches!(*byte, b' ' | b'\t'))
+}
+
+/// Whether a line has the titles of a capture's columns.
+fn has_columns(line: &[u8]) -> bool {
+    has_title(line, b"time_us") && has_title(line, b"wire") && has_title(line, b"byte")
 }
 
 /// Whether these bytes stand somewhere in the line.
@@ -132,6 +176,14 @@ fn has(line: &[u8], mark: &[u8]) -> bool
     line.windows(mark.len()).any(|part| part == mark)
 }
 
+/// Whether this title stands somewhere in the line, in small letters or capital ones.
+fn has_title(line: &[u8], title: &[u8]) -> bool
+    requires { 0 < length title.now }
+{
+    line.windows(title.len())
+        .any(|part| part.eq_ignore_ascii_case(title))
+}
+
 /// What to do about it.
 fn hint_of<'a>(looks: LooksLike) -> &'a str
     ensures { result.now ≡ hint_of looks }
@@ -139,8 +191,19 @@ fn hint_of<'a>(looks: LooksLike) -> &'a str
     match looks {
         LooksLike::Empty => "; there is no text in it",
         LooksLike::Rows => ", which is a row: put the header before it",
-        LooksLike::Semicolons => ", with semicolons where a capture has commas",
+        LooksLike::Columns => {
+            "; write these three columns alone, in this order, in small letters and without blanks"
+        }
+        LooksLike::Semicolons =>
+            ", with semicolons where a capture has commas: save it with commas",
+        LooksLike::Tabs => ", with tabs where a capture has commas: save it with commas",
         LooksLike::Utf16 => ", in UTF-16: save it as UTF-8",
+        LooksLike::Gzip => ", packed by gzip: unpack it, with gunzip",
+        LooksLike::Zip => {
+            ", packed by zip: unpack it, save a workbook (.xlsx) as CSV, or export a recording (.sr, .sal), see docs/CAPTURE.md"
+        }
+        LooksLike::Json => ", as JSON has: save it as CSV",
+        LooksLike::Markup => ", as HTML or XML has: save it as CSV",
         LooksLike::Saleae => {
             ", as a Saleae export has: ninecheck convert saleae makes a capture of it"
         }

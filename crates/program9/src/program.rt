@@ -11,7 +11,7 @@ use crate::ending::{End, Message, Outcome, Unopened, WhyUnopened};
 use crate::first_bytes::FirstBytes;
 use crate::judging::{Job, Named, judge_and_flush};
 use crate::maker::Maker;
-use crate::no_header::{found_in, with_header};
+use crate::no_header::{found_in, with_file};
 use crate::sheet::{Other, read_other};
 use crate::version::tell_version;
 use crate::want::{kept_by, with_want};
@@ -129,7 +129,7 @@ fn carry_out<
             let kept = kept_by(job.asked.report, named.export.live);
             let mut reader = FirstBytes::of(reader);
             let judged = judge_and_flush(alloc, &mut reader, &mut out, job, &named, maker);
-            let told = with_header(judged, named.file, found_in(reader.as_slice()));
+            let told = with_file(judged, named.file, found_in(reader.as_slice()));
             taken_back(out, with_want(told, kept))
         }
         Err(ended) => ended,

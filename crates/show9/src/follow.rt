@@ -120,8 +120,9 @@ fn explain_events<R: Read + Drop, V: ExplainedView>(
     }
 }
 
-/// What a view answered. A fault of the capture is the judging's alone to tell: one that a view made up counts as want of memory.
-fn of_view(told: Result<(), JudgeError>) -> Result<(), JudgeError>
+/// What a view answered, or what else writes of a judging. A fault of the capture is the judging's alone to tell: one that a view made up
+/// counts as want of memory.
+pub fn of_view(told: Result<(), JudgeError>) -> Result<(), JudgeError>
     ensures { IfErr result IsOfView }
 {
     match told {

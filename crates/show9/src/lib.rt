@@ -5,4 +5,4 @@ mod fewest_moves;
 mod follow;
 
 pub use fewest_moves::FewestMoves;
-pub use follow::{show, show_explained};
+pub use follow::{of_view, show, show_explained};

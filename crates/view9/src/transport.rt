@@ -81,15 +81,15 @@ impl Way {
 }
 
 impl<'a> Transport<'a> {
-    /// What the command of an exchange asks for, where it is one of the transport. One that is not listed is one by its group; where a
-    /// sheet has a name for it, only if by the sheet the tape may move otherwise after it, or the deck may act by itself.
+    /// What the command of an exchange asks for, where it is one of the transport. One that is not listed is one by its group, unless it is
+    /// a query; where a sheet has a name for it, only if by the sheet the tape may move otherwise after it, or the deck may act by itself.
     pub(crate) fn of(profile: &'a Profile, seen: &SeenExchange<'_>) -> Option<Transport<'a>> {
         let command = &seen.exchange.command;
         let called = Called::of(profile, seen.exchange);
         let mode = match (DeckRef::none().effect(command), called) {
             (Effect::Go(mode), _) => Some(mode),
             (Effect::KeepOr(_), _) => None,
-            (_, Called::Head(head)) if head / 0x10_00 == 2 => None,
+            (_, Called::Head(head)) if head / 0x10_00 == 2 && !seen.exchange.only_asks() => None,
             _ if has_line_for(profile, seen.exchange) || may_move(profile, seen.exchange) => None,
             _ => return None,
         };

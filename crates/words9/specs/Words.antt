@@ -1,5 +1,5 @@
 -- What the words of the command line ask for, by `clap`'s own definition of a command and its words.
-use Rattle.std.specs.Prelude.{◌≡◌, ◌<◌, IfSome, List, [], ◌++◌, ◌∷◌, Option, Some, None, codes, find, map, option_map, Bool, true, false, ◌&&◌, ◌||◌, if◌then◌else◌}
+use Rattle.std.specs.Prelude.{◌≡◌, List, [], ◌++◌, ◌∷◌, Option, Some, None, codes, find, map, option_map, Bool, true, false, ◌&&◌, ◌||◌, if◌then◌else◌}
 use Rattle.std.specs.List.{fold}
 use Rattle.std.specs.Borrow.{Bor}
 use Rattle.std.specs.Option.{unwrap_or}
@@ -30,12 +30,14 @@ use Rattle.words9.specs.declared.task.Export.TheVariants as export
 use Rattle.words9.specs.declared.task.ExportWords.{ExportWords}
 use Rattle.words9.specs.declared.task.Report.{Report}
 use Rattle.words9.specs.declared.task.Made.TheVariants as made
+use Rattle.words9.specs.declared.task.NoValue.{NoValue}
 use Rattle.words9.specs.declared.task.Report.TheVariants.{Made, Parts, Run, ToBreak}
 use Rattle.words9.specs.declared.task.Task.{Task}
 use Rattle.report9.specs.declared.time_form.TimeForm.{TimeForm}
 use Rattle.report9.specs.declared.time_form.TimeForm.TheVariants as form
 use Rattle.words9.specs.declared.task.Verb.{Verb}
 use Rattle.words9.specs.declared.task.Verb.TheVariants as verb
+use Rattle.words9.specs.Values.{HasNoValue, IsDrawingOf, IsStretchOf}
 
 -- the rate with this name. There is never one that no rate has: the program does not take such words
 abbrev pub rate_named : Text → Rate
@@ -286,16 +288,6 @@ asked_of verb rows stretch drawing = record {
   quiet = has (codes "quiet") rows;
 }
 
--- where no option names a time, all of the capture is shown; and a stretch ends behind its beginning
-pub record IsStretchOf (rows : List Row) (stretch : Stretch) : Type 0 where
-  pub from : first_of (codes "from") rows ≡ None → stretch.from_us ≡ 0
-  pub to : first_of (codes "to") rows ≡ None → stretch.to_us ≡ None
-  pub order : IfSome stretch.to_us (λ to_us. stretch.from_us < to_us)
-
--- where no option names a record, the first break is drawn, and where none names a width, the picture may be 1,200 pixels wide
-abbrev pub IsDrawingOf : List Row → Drawing → Type 0
-IsDrawingOf rows drawing = (first_of (codes "at") rows ≡ None → drawing.at ≡ None) × (first_of (codes "width") rows ≡ None → drawing.width ≡ 1200)
-
 -- the rows of an export or of a split have this, as it stands among the words
 pub record IsExportOf (given : List Row) (export : ExportWords) : Type 0 where
   pub deck_file : option_map string_bytes export.deck_file ≡ first_of (codes "DECK-FILE") given
@@ -323,6 +315,13 @@ pub record GivesTask (names : RateNames) (words : List Text) (task : Task) : Typ
   pub sheets : map (λ s. string_bytes s) task.sheets.items ≡ values_of (codes "deck") rows
   pub export : IsExportOf rows task.export
 
+-- the program takes the words, but for a value that an option can't have
+pub record GivesNoValue (names : RateNames) (words : List Text) (v : NoValue) : Type 0 where
+  pub verb : Verb
+  pub rows : List Row
+  pub takes : TakesWords names words verb rows
+  pub no_value : HasNoValue rows v
+
 -- it does not take them
 abbrev pub GivesNoTask : RateNames → List Text → Type 0
 GivesNoTask names words = (verb : Verb) → (rows : List Row) → TakesWords names words verb rows → ⊥
@@ -330,6 +329,10 @@ GivesNoTask names words = (verb : Verb) → (rows : List Row) → TakesWords nam
 -- the task is the one that the words give
 abbrev pub IsTaskOf : List Text → Task → Type 0
 IsTaskOf words task = (names : RateNames) × AreRateNames names × GivesTask names words task
+
+-- the words are a command, but for this value of an option
+abbrev pub IsNoValueOf : List Text → NoValue → Type 0
+IsNoValueOf words v = (names : RateNames) × AreRateNames names × GivesNoValue names words v
 
 -- the program does not take the words
 abbrev pub IsNoTask : List Text → Type 0

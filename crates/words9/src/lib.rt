@@ -16,7 +16,7 @@ mod usage;
 mod verbs;
 mod words;
 
-pub use hint::rate_hint;
+pub use hint::hint_for;
 pub use task::{
     Asked, Drawing, Export, ExportWords, Made, NoValue, Report, Task, Unfit, VERSION_LINE, Verb,
     WordsFault,

@@ -1,8 +1,9 @@
 //! The stretch of a capture that the options name.
-ghost use Rattle.std.specs.Prelude.{◌≡◌, ◌≢◌, IfOk, Option, Err};
+ghost use Rattle.std.specs.Prelude.{◌≡◌, IfErr, IfOk, MatchOption};
+ghost use Rattle.std.specs.String.{string_bytes};
 ghost use Rattle.clap.specs.Words.{first_of, found_of, rows_of};
-ghost use Rattle.clap.specs.declared.error.Error.{Error as ClapError};
-ghost use Rattle.words9.specs.Words.{IsStretchOf};
+ghost use Rattle.words9.specs.Values.{IsStretchOf, time_of};
+ghost use Rattle.words9.specs.Working.{IsNoTaskOf, IsUnread};
 
 use crate::task::{NoValue, Unfit, WordsFault};
 use crate::times::read_time;
@@ -24,8 +25,7 @@ struct GivenTime {
 /// that is no later than the beginning.
 pub(crate) fn stretch_of(alloc: Global, found: &ArgMatches<'_>) -> Result<Stretch, WordsFault>
     ensures stretch { IfOk result (IsStretchOf (rows_of (found_of found.now))) }
-    ensures usage { (o : Option ClapError) → result ≢ Err (WordsFault.Usage o) }
-    ensures version { result ≢ Err WordsFault.Version }
+    ensures fault { IfErr result (IsNoTaskOf (rows_of (found_of found.now))) }
 {
     let from_us = match time_of(alloc, found, "from")? {
         Some(from) => from.us,
@@ -54,9 +54,9 @@ fn time_of(
     found: &ArgMatches<'_>,
     option: &'static str,
 ) -> Result<Option<GivenTime>, WordsFault>
-    ensures none { IfOk result (λ time. first_of option.now (rows_of (found_of found.now)) ≡ None → time ≡ None) }
-    ensures usage { (o : Option ClapError) → result ≢ Err (WordsFault.Usage o) }
-    ensures version { result ≢ Err WordsFault.Version }
+    ensures time { IfOk result (λ time. MatchOption time (first_of option.now (rows_of (found_of found.now)) ≡ None)
+        (λ t. (first_of option.now (rows_of (found_of found.now)) ≡ Some (string_bytes t.value)) × (time_of (string_bytes t.value) ≡ Some t.us))) }
+    ensures fault { IfErr result (IsUnread time_of option.now (rows_of (found_of found.now))) }
 {
     let Ok(value) = value_of(alloc, found, option) else {
         return Err(WordsFault::NoMemory);

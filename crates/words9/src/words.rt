@@ -1,9 +1,11 @@
 //! From the words of the command line to a task.
-ghost use Rattle.std.specs.Prelude.{◌≡◌, ◌≢◌, IfOk, MatchOption, Option, Err, codes, map, option_map};
+ghost use Rattle.std.specs.Prelude.{◌≡◌, ◌≢◌, IfErr, IfOk, MatchOption, Option, Err, codes, map, option_map};
 ghost use Rattle.std.specs.String.{string_bytes};
 ghost use Rattle.clap.specs.Words.{first_of, found_of, kind_of, rows_of};
 ghost use Rattle.clap.specs.declared.error.Error.{Error as ClapError};
-ghost use Rattle.words9.specs.Words.{AsksVersion, IsNoTask, IsDrawingOf, IsExportOf, IsTaskOf, MayAskVersion, asked_of, beginning_of, extent_of, hands_of, is_asked, is_export, is_on, is_pair, joined, name_of, rate_named, rate_of, report_of, shown, values_of};
+ghost use Rattle.words9.specs.Values.{IsDrawingOf, count_of, said_if};
+ghost use Rattle.words9.specs.Words.{AsksVersion, IsNoTask, IsNoValueOf, IsExportOf, IsTaskOf, MayAskVersion, asked_of, beginning_of, extent_of, hands_of, is_asked, is_export, is_on, is_pair, joined, name_of, rate_named, rate_of, report_of, shown, values_of};
+ghost use Rattle.words9.specs.Working.{IsNoTaskOf, IsUnread};
 
 use crate::stretch::stretch_of;
 use crate::task::{
@@ -28,7 +30,8 @@ use tc25::Rate;
 ///
 /// * `Ok(task)` only where the definition takes the words. The task asks for the report of the subcommand and its options, and has
 ///   the file and the options that the definition gives for the words, and 25 frames a second where they name no rate; `touches` allows
-///   hands. Of the options of an export or of a split it has the values as they stand: none of them is judged here, and none has to be there.
+///   hands. What is shown is from the time of `--from` to that of `--to`, and a picture is drawn by the numbers of `--at` and `--width`. Of
+///   the options of an export or of a split it has the values as they stand: none of them is judged here, and none has to be there.
 /// * `Err(Usage)` only where it does not take them, and they are not those that ask for the version. Words that ask for
 ///   help are not taken.
 /// * `Err(Version)` only where they ask for the version, and that is, or may be, the first thing that stops the definition.
@@ -42,6 +45,8 @@ pub fn read_words(alloc: Global, words: Vec<String>) -> Result<Task, WordsFault>
         × ¬ (AsksVersion (joined (map (λ s. string_bytes s) words.items))) }
     ensures version { result ≡ Err WordsFault.Version
         → MayAskVersion (joined (map (λ s. string_bytes s) words.items)) }
+    ensures no_value { (v : NoValue) → result ≡ Err (WordsFault.NoValue v)
+        → IsNoValueOf (joined (map (λ s. string_bytes s) words.items)) v }
 {
     match joined(words) {
         Ok(words) => read_joined(alloc, words.as_slice()),
@@ -57,6 +62,8 @@ fn read_joined(alloc: Global, words: &[String]) -> Result<Task, WordsFault>
         × ¬ (AsksVersion (map (λ s. string_bytes s) words.now)) }
     ensures version { result ≡ Err WordsFault.Version
         → MayAskVersion (map (λ s. string_bytes s) words.now) }
+    ensures no_value { (v : NoValue) → result ≡ Err (WordsFault.NoValue v)
+        → IsNoValueOf (map (λ s. string_bytes s) words.now) v }
 {
     let matches = match parsed(alloc, words, rate_names()) {
         Ok(matches) => matches,
@@ -131,8 +138,7 @@ fn is_export(word: &str) -> bool
 /// What the options ask of a picture: the first break, and a width of 1,200 pixels, where they ask for nothing else.
 fn drawing_of(alloc: Global, found: &ArgMatches<'_>) -> Result<Drawing, WordsFault>
     ensures drawing { IfOk result (IsDrawingOf (rows_of (found_of found.now))) }
-    ensures usage { (o : Option ClapError) → result ≢ Err (WordsFault.Usage o) }
-    ensures version { result ≢ Err WordsFault.Version }
+    ensures fault { IfErr result (IsNoTaskOf (rows_of (found_of found.now))) }
 {
     let at = number_of(alloc, found, "at", 1)?;
     let width = number_of(alloc, found, "width", 700)?;
@@ -149,9 +155,8 @@ fn number_of(
     option: &'static str,
     least: u32,
 ) -> Result<Option<u32>, WordsFault>
-    ensures none { IfOk result (λ number. first_of option.now (rows_of (found_of found.now)) ≡ None → number ≡ None) }
-    ensures usage { (o : Option ClapError) → result ≢ Err (WordsFault.Usage o) }
-    ensures version { result ≢ Err WordsFault.Version }
+    ensures number { IfOk result (λ number. said_if (count_of least) (first_of option.now (rows_of (found_of found.now))) ≡ Some number) }
+    ensures fault { IfErr result (IsUnread (count_of least) option.now (rows_of (found_of found.now))) }
 {
     let Ok(value) = value_of(alloc, found, option) else {
         return Err(WordsFault::NoMemory);
@@ -286,6 +291,7 @@ fn fault_of(e: Error) -> WordsFault
     ensures usage { (o : Option ClapError) → result ≡ WordsFault.Usage o
         → (kind_of e ≢ ErrorKind.OutOfMemory) × (kind_of e ≢ ErrorKind.DisplayVersion) }
     ensures version { result ≡ WordsFault.Version → kind_of e ≡ ErrorKind.DisplayVersion }
+    ensures no_value { (v : NoValue) → result ≢ WordsFault.NoValue v }
 {
     match e.kind() {
         ErrorKind::OutOfMemory => WordsFault::NoMemory,

@@ -1,7 +1,7 @@
 //! A deck one state at a time, written from the rules with no sets: its moves, what its replies show, and what commands do to it.
 //!
 //! It is for the calls of a `Tracker`: after each of them all states of a small day are compared, for each kind of sets and with
-//! sheets. Another plain deck, `tests/lib/deck.awk`, is for the answers of the built program on whole captures. The two share no
+//! sheets. Another plain deck, `tests/lib/deck`, is for the answers of the built program on whole captures. The two share no
 //! line, so that a rule that one misreads shows in the other.
 
 mod commands;

@@ -1,6 +1,6 @@
 use Rattle.std.proofs.Common.{ap, inl, inr, ◌∙◌}
 use Rattle.std.proofs.KnownBytes.{Keeps-refl}
-use Rattle.program9.specs.Header.{with_header}
+use Rattle.program9.specs.Header.{with_file}
 use Rattle.program9.specs.Outcome.{told_after}
 use Rattle.program9.specs.Want.{kept_by, with_want}
 use Rattle.program9.proofs.BufferLemmas.{holds_nothing}
@@ -25,8 +25,8 @@ returns-in-Ok g c =
       found = found;
       failed = _;
       ends = c.taken_back.ensures.end ∙ ap (told_after _) (c.with_want.ensures
-          ∙ ap (λ told. with_want c.kept_by-kept.result told) (c.with_header-told.ensures ∙ ap (λ file. with_header file found c.judge_and_flush-judged.result) c.in-Ok.ensures.file)
-          ∙ ap (λ kept. with_want kept (with_header c.args.task.file found c.judge_and_flush-judged.result)) is_kept);
+          ∙ ap (λ told. with_want c.kept_by-kept.result told) (c.with_file-told.ensures ∙ ap (λ file. with_file file found c.judge_and_flush-judged.result) c.in-Ok.ensures.file)
+          ∙ ap (λ kept. with_want kept (with_file c.args.task.file found c.judge_and_flush-judged.result)) is_kept);
     }
 
 pub returns-in-Err : goal.returns-in-Err
