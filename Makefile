@@ -1,12 +1,14 @@
 # Proves and builds the program, installs it, makes packages of it, and tries the edits that have to be refused.
 #
 #   make         proves every crate and builds the program; interrupted, it goes on from there
+#   make static  out/static/ninecheck, the same program linked statically, which is what is installed and packed: it needs gcc
 #   make install [PREFIX=/usr/local] [DESTDIR=]    make uninstall, with the same
 #   make deb     out/ninecheck_VERSION_amd64.deb
-#   make dist    out/ninecheck-VERSION-linux-x86_64.tar.gz, with the page for a browser where that was made
+#   make dist    out/ninecheck-VERSION-linux-x86_64.tar.gz and its sum, with the page for a browser where that was made
 #   make web     out/ninecheck-VERSION.html, the program for a browser in one file. It needs wasm-opt of Debian's binaryen, node and python3
-#   make check   runs every script of tests/, and proves nothing: on the built program, or where none is built on one that is compiled
-#                for a trial (make/keep.sh)
+#   make tools   installs the packages of Debian that the tests and `make web` need (tests/packages.txt), as root or by sudo
+#   make check   runs every test, and proves nothing: on the built program, or where none is built on one that is compiled for a trial
+#                (make/keep.sh)
 #   make audit   tries every edit of must-fail/ and audit/, which takes about an hour on four cores
 #
 # Only `make` and `make audit` prove, but for the one crate of the program, of which `make web` makes the module anew: all else takes what
@@ -15,9 +17,10 @@
 PREFIX ?= /usr/local
 DESTDIR ?=
 VERSION = $(shell make/version.sh)
-# The version of the C library that the program needs, by the names that it takes from it.
-LIBC = $(shell objdump -T $(PROGRAM) | grep -o 'GLIBC_[0-9.]*' | sed 's/GLIBC_//' | sort -V | tail -n 1)
 PROGRAM := crates/ninecheck/out/ninecheck
+STATIC := out/static/ninecheck
+# The program that is installed and packed.
+INSTALLED ?= $(STATIC)
 PACKAGE = ninecheck-$(VERSION)-linux-x86_64
 
 # The folder that the man page's examples name.
@@ -32,7 +35,7 @@ for_bash := $(to)/share/bash-completion/completions/ninecheck
 for_zsh := $(to)/share/zsh/$(ZSH_FOLDER)/_ninecheck
 for_fish := $(to)/share/fish/vendor_completions.d/ninecheck.fish
 
-.PHONY: program built install uninstall deb dist web check audit
+.PHONY: program built static install uninstall deb dist web tools check audit
 
 program:
 	@make/prove.sh
@@ -40,15 +43,21 @@ program:
 built:
 	@test -x $(PROGRAM) || { echo "nothing is built yet: run make first, it proves and builds the program" >&2; exit 1; }
 
-install: built
+static: built
+	@test "$(INSTALLED)" != $(STATIC) || make/static.sh
+
+install: static
 	install -D -m 755 ninecheck "$(to)/bin/ninecheck"
-	install -D -m 755 $(PROGRAM) "$(to)/lib/ninecheck/ninecheck"
+	install -D -m 755 "$(INSTALLED)" "$(to)/lib/ninecheck/ninecheck"
 	install -D -m 644 -t "$(to)/share/ninecheck/decks" decks/*.toml
 	install -D -m 644 -t "$(to)/share/ninecheck/examples" examples/*.csv examples/*.toml examples/ANSWERS
 	install -D -m 644 -t "$(to)/share/ninecheck/examples/exports" examples/exports/*
 	install -D -m 644 -t "$(to)/share/ninecheck/examples/views" examples/views/*
-	install -D -m 644 -t "$(to)/share/doc/ninecheck" README.md docs/*.md
-	install -D -m 644 -t "$(to)/share/doc/ninecheck/pictures" docs/pictures/*
+	install -D -m 644 README.md "$(to)/share/doc/ninecheck/README.md"
+	make/readme.sh > "$(to)/share/doc/ninecheck/README.md"
+	install -D -m 644 -t "$(to)/share/doc/ninecheck/docs" docs/*.md
+	sed -i -E 's,\[([^]]+)\]\(\.\./(CONTRIBUTING|tests/|crates/|audit/)[^)]*\),\1,g' "$(to)/share/doc/ninecheck/docs/"*.md
+	install -D -m 644 -t "$(to)/share/doc/ninecheck/docs/pictures" docs/pictures/*
 	install -D -m 644 package/ninecheck.1 "$(page)"
 	sed -i 's/@VERSION@/$(VERSION)/; s|/usr/local/|$(PAGE_PREFIX)/|' "$(page)"
 	install -D -m 644 package/ninecheck.bash "$(for_bash)"
@@ -59,22 +68,21 @@ uninstall:
 	rm -f "$(to)/bin/ninecheck" "$(page)" "$(for_bash)" "$(for_zsh)" "$(for_fish)"
 	rm -rf "$(to)/lib/ninecheck" "$(to)/share/ninecheck" "$(to)/share/doc/ninecheck"
 
-deb: built
+deb: static
 	rm -rf out/deb
 	$(MAKE) --no-print-directory install DESTDIR=out/deb PREFIX=/usr ZSH_FOLDER=vendor-completions
-	mkdir -p out/deb/DEBIAN
-	test -n "$(LIBC)"
-	sed 's/@VERSION@/$(VERSION)/; s/@LIBC@/$(LIBC)/' package/debian-control > out/deb/DEBIAN/control
-	dpkg-deb --root-owner-group --build out/deb out/ninecheck_$(VERSION)_amd64.deb
+	make/deb.sh out/deb
 
-dist: built
+dist: static
 	rm -rf out/dist
 	$(MAKE) --no-print-directory install DESTDIR= PREFIX=out/dist/$(PACKAGE) PAGE_PREFIX=/usr/local
-	! web/build.sh stands || install -m 644 out/ninecheck-$(VERSION).html out/dist/$(PACKAGE)
-	tar -C out/dist --owner=0 --group=0 -czf out/$(PACKAGE).tar.gz $(PACKAGE)
+	make/dist.sh out/dist/$(PACKAGE)
 
 web:
 	@web/build.sh
+
+tools:
+	@make/tools.sh
 
 check:
 	@make/check.sh

@@ -177,6 +177,21 @@ for target in install deb dist; do
     judge "make $target where nothing is built" is_text 2 '' 'nothing is built yet: run make first, it proves and builds the program'
 done
 
+# Without `rt` nothing can be proved: what proves says so, and runs nothing.
+mkdir "$work/few" "$tree/.ci"
+for tool in bash dirname env mkdir mktemp rm; do ln -s "$(command -v $tool)" "$work/few/$tool"; done
+cp .ci/run "$tree/.ci"
+for script in make/prove.sh .ci/run; do
+    (cd "$tree" && PATH="$work/few" "./$script") > "$work/out" 2> "$work/err" < /dev/null
+    status=$?
+    cat "$work/err" >> "$work/out"
+    : > "$work/err"
+    said='nothing can be proved: `rt`, the command of the Rattle kit, is not on the path'
+    [ "$script" = make/prove.sh ] || said="$said
+0 passed, 1 failed"
+    judge "$script where there is no rt" is_text 1 "$said" ''
+done
+
 # The audit: every edit of both places, on a copy, and how each was refused.
 mkdir -p "$tree/crates/low/must-fail" "$tree/audit/low" "$tree/audit/high"
 touch "$tree/crates/low/must-fail/one.edit" "$tree/audit/low/two.edit" "$tree/audit/high/three.edit"

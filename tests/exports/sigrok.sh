@@ -75,7 +75,7 @@ is_sent() {
 # is_refused ERROR: the converter refused the fifth record for this error, and nothing else went wrong.
 is_refused() {
     [ "$status" = 3 ] && [ ! -s "$work/capture.csv" ] && [ "$(wc -l < "$work/err")" = 1 ] &&
-        grep -qE "^ninecheck convert sigrok: line [0-9]+: a damaged byte: [0-9]+-[0-9]+ uart-2: $1\$" "$work/err"
+        grep -qE "^ninecheck convert sigrok: export.txt: line [0-9]+: a damaged byte: [0-9]+-[0-9]+ uart-2: $1\$" "$work/err"
 }
 
 # is_answer LINE: the program says this of the page's capture.

@@ -110,22 +110,22 @@ judge 'a byte order mark, quotes, blank lines, zeros in front, small digits and 
 
 # What is refused before a part is begun.
 split_into "$capture" part --rows 5
-judge 'no place to cut' is_refused 3 'ninecheck split: line 7: no place between exchanges in 5 rows'
+judge 'no place to cut' is_refused 3 "ninecheck split: $work/in: line 7: no place between exchanges in 5 rows"
 split_into "$capture" '' --rows 5
-judge 'an empty name' is_refused 2 'ninecheck split: line 0: --to NAME is missing'
+judge 'an empty name' is_refused 2 'ninecheck split: --to NAME is missing'
 split_words "$work/in"
-judge 'no name' is_refused 2 'ninecheck split: line 0: --to NAME is missing'
+judge 'no name' is_refused 2 'ninecheck split: --to NAME is missing'
 for rows in 4000001 0 1x 99999999999999999999; do
     split_into "$capture" part --rows $rows
-    judge "no number of rows: $rows" is_refused 2 "ninecheck split: line 0: --rows is no number from 1 to 4000000: $rows"
+    judge "no number of rows: $rows" is_refused 2 "ninecheck split: --rows is no number from 1 to 4000000: $rows"
 done
 split_into "$capture" part --rows=
 judge 'an empty number of rows' is_split "$first$second$open"
 split_into "$capture" none/part
 judge 'a folder that is not there, told where the first part begins' is_refused 4 \
-    "ninecheck split: line 8: the part none/part-001.csv can't be written"
+    "ninecheck split: $work/in: line 8: the part none/part-001.csv can't be written"
 split_into 'time_us,wire,byte\n1,C,20\n' none/part
-judge 'a folder that is not there, told at the end' is_refused 4 "ninecheck split: line 2: the part none/part-001.csv can't be written"
+judge 'a folder that is not there, told at the end' is_refused 4 "ninecheck split: $work/in: line 2: the part none/part-001.csv can't be written"
 while IFS='|' read -r name text; do
     split_into "$text" part
     judge "$name" [ "$status" = 3 ]
@@ -149,7 +149,7 @@ judge 'a directory as input' is_refused 4 "$(both_lines 'read fault at row 0')"
 
 # What stays where it ends early. The parts but the last are whole, and the last is the beginning of one.
 bad="unreadable at row @: fields
-expected three fields: time_us,wire,byte"
+$work/in: expected three fields: time_us,wire,byte"
 split_into "time_us,wire,byte\n${first}11,C,20\n12,C\n" part --rows 6
 judge 'a bad row, and one part is left' is_text 3 '' "${bad/@/8}
 left behind: part-001.csv, which may not be whole"
@@ -163,35 +163,35 @@ judge 'a bad row, and three parts are left' is_text 3 '' "${bad/@/16}
 left behind: part-001.csv to part-003.csv, of which the last may not be whole"
 judge 'the third begins as a part' begins_as "$first" "$second" "${open}22,D,10\n"
 split_into 'time_us,wire,byte\n1,C,20\n2,D,10\n3,C,20\n4,C,01\n5,D,10\n' part --rows 2
-judge 'no place to cut in the second part' is_text 3 '' 'ninecheck split: line 6: no place between exchanges in 2 rows
-left behind: part-001.csv, which may not be whole'
+judge 'no place to cut in the second part' is_text 3 '' "ninecheck split: $work/in: line 6: no place between exchanges in 2 rows
+left behind: part-001.csv, which may not be whole"
 
 # A file that is there already, whatever it is.
 rm -rf "$parts"
 mkdir "$parts"
 echo mine > "$parts/part-001.csv"
 split_beside "$capture" part --rows 6
-judge 'a first part that is there' is_text 4 '' 'ninecheck split: line 8: the part part-001.csv is there already, and is left as it is'
+judge 'a first part that is there' is_text 4 '' "ninecheck split: $work/in: line 8: the part part-001.csv is there already, and is left as it is"
 judge 'it is left as it is' [ "$(cat "$parts"/*)" = mine ]
 mv "$parts/part-001.csv" "$parts/part-002.csv"
 split_beside "$capture" part --rows 6
-judge 'a second part that is there' is_text 4 '' 'ninecheck split: line 14: the part part-002.csv is there already, and is left as it is
-left behind: part-001.csv, which may not be whole'
+judge 'a second part that is there' is_text 4 '' "ninecheck split: $work/in: line 14: the part part-002.csv is there already, and is left as it is
+left behind: part-001.csv, which may not be whole"
 judge 'the second part is left as it is' [ "$(cat "$parts/part-002.csv")" = mine ]
 rm "$parts/part-002.csv"
 judge 'the first part is whole' has_parts "$first"
 split_beside "$capture" part
-judge 'a part of the split before' is_text 4 '' 'ninecheck split: line 8: the part part-001.csv is there already, and is left as it is'
+judge 'a part of the split before' is_text 4 '' "ninecheck split: $work/in: line 8: the part part-001.csv is there already, and is left as it is"
 judge 'the part of the split before is left as it is' has_parts "$first"
 rm "$parts/part-001.csv"
 ln -s "$work/away" "$parts/part-001.csv"
 split_beside "$capture" part
-judge 'a link to nothing' is_text 4 '' 'ninecheck split: line 8: the part part-001.csv is there already, and is left as it is'
+judge 'a link to nothing' is_text 4 '' "ninecheck split: $work/in: line 8: the part part-001.csv is there already, and is left as it is"
 judge 'nothing is made behind the link' [ ! -e "$work/away" ]
 rm "$parts/part-001.csv"
 mkdir "$parts/part-001.csv"
 split_beside "$capture" part
-judge 'a folder of that name' is_text 4 '' 'ninecheck split: line 8: the part part-001.csv is there already, and is left as it is'
+judge 'a folder of that name' is_text 4 '' "ninecheck split: $work/in: line 8: the part part-001.csv is there already, and is left as it is"
 
 # A part that can be made, and not be written to its end: no file may be longer than one kilobyte.
 records "$play" 1000 > "$work/in"
@@ -202,8 +202,8 @@ mkdir "$parts"
     exec "$program" split --to part "$work/in" > "$work/out" 2> "$work/err"
 )
 status=$?
-sed -i 's/^ninecheck split: line [0-9]*: /ninecheck split: line @: /' "$work/err"
-judge 'a part that is not written to its end' is_text 4 '' "ninecheck split: line @: the part part-001.csv can't be written
+sed -i 's/: line [0-9]*: /: line @: /' "$work/err"
+judge 'a part that is not written to its end' is_text 4 '' "ninecheck split: $work/in: line @: the part part-001.csv can't be written
 left behind: part-001.csv, which may not be whole"
 
 # The names of the parts, where they can't be written. The parts are whole then.

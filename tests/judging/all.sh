@@ -4,11 +4,13 @@
 # 'N passed, M failed'.
 set -u
 cd "$(dirname "$0")/../.." || exit 1
+. tests/lib/tools.sh
+need_tools python3
 . tests/lib/judge.sh
 . tests/lib/errors.sh
 . tests/lib/program.sh
 . tests/lib/blocks.sh
-awk=${AWK:-awk}
+. tests/lib/drawing.sh
 
 # How many captures are drawn, every second of them with hands, and every fifth with a sheet of a deck that acts by itself; and how often
 # the long ones have their exchange.
@@ -29,7 +31,7 @@ ask() {
     while read -r name hands deck; do
         words=
         [ "$hands" = 0 ] || words=--hands
-        [ "$deck" = - ] || words="$words --deck $deck"
+        [ "$deck" = - ] || words="${words:+$words }--deck $deck"
         for verb in check explain why; do
             quiet=
             [ "$verb" != why ] || quiet=--quiet
@@ -45,36 +47,6 @@ ask() {
     done < "$1" 2>&1
 }
 
-# wanted LIST: the same, of what was composed.
-wanted() {
-    awk -v folder="$work" '{
-        words = ($2 ? "--hands" : "") ($3 == "-" ? "" : " --deck " $3)
-        n = split("check explain why", verb, " ")
-        for (k = 1; k <= n; k++) {
-            text = line = ""
-            file = folder "/" $1 "." verb[k]
-            while ((getline line < file) > 0) text = text line "\n"
-            close(file)
-            text = text "status " (line ~ /^breaks 0:/ ? 0 : 1)
-            print "capture " $1 ": " verb[k] " --all " words "\n" text
-            print "capture " $1 ": " verb[k] " " words " --all from standard input\n" text
-        }
-    }' "$1"
-}
-
-# compare: counts of each thing that was asked whether it came as it is wanted.
-compare() {
-    awk '
-        /^capture / { asked = $0; if (FNR == NR) order[++n] = asked }
-        FNR == NR { want[asked] = want[asked] $0 "\n"; next }
-        { came[asked] = came[asked] $0 "\n" }
-        END {
-            for (k = 1; k <= n; k++)
-                if (want[order[k]] != came[order[k]]) { failed++; printf "FAILED %swanted %s", came[order[k]], want[order[k]] }
-            print n - failed " passed, " failed + 0 " failed"
-        }' "$work/want" "$work/came"
-}
-
 # at_least LEAST FORM: of a thousand captures that many lines of what was composed have this form.
 at_least() {
     [ "$(grep -cE "$2" "$work/composed")" -ge $((($1 * drawn + 999) / 1000)) ]
@@ -84,20 +56,23 @@ draw_captures $drawn "$work" > "$work/list"
 damage_captures $drawn "$work"
 # At the beginning of each part all may be going on that the sheet names.
 printf '%s\n' '[loses]' '"20 0F" = "points"' '"20 40" = "registers"' '[runs]' '"20 01" = ["JOG"]' '"20 40" = ["REC", "SHUTTLE"]' > "$work/acting.toml"
-"$awk" -v deck="$work/acting.toml" '{ print $1 "-damaged " $2 " " ($1 % 5 == 0 ? deck : "-") }' "$work/list" > "$work/damaged"
+while read -r number hands _; do
+    deck=-
+    [ $((number % 5)) != 0 ] || deck=$work/acting.toml
+    echo "$number-damaged $hands $deck"
+done < "$work/list" > "$work/damaged"
 # A processor has a part of them.
 split -n "r/$(nproc)" "$work/damaged" "$work/part-"
 for part in "$work"/part-*; do
     mkdir "$part.d"
     {
-        "$awk" -v program="$program" -v folder="$work" -v place="$part.d" -f tests/judging/composing.awk "$part" > "$part.composed"
+        python3 -B tests/judging/composing.py "$program" "$work" "$part.d" "$part" "$part.want" > "$part.composed"
         ask "$part" > "$part.came"
-        wanted "$part" > "$part.want"
     } &
 done
 wait
 for kind in composed came want; do cat "$work"/part-*."$kind" > "$work/$kind"; done
-judge_all 'the captures' compare
+judge_all 'the captures' python3 -B tests/judging/asked.py "$work/want" "$work/came"
 
 # What was drawn has what is to be seen.
 for reason in P1 P2 P3 L2 P4 L1 B3 B1 B2 P6 P5 P7 M1; do
@@ -117,8 +92,10 @@ judge 'captures of which nothing is passed over' at_least 10 'passed over 0$'
 
 # PLAY and two acknowledgements, many times: a part each, of which nothing is kept. The program has 64 MB.
 records "$second_reply" "$many" > "$work/many.csv"
-"$awk" -v many="$many" 'BEGIN { for (k = 0; k < many; k++) print "no at record " 9 * k + 7 ": P1 reply without a command"
-    print "breaks " many ": records " 9 * many ", exchanges " many ", passed over " 3 * many ", open 0" }' > "$work/want"
+{
+    for ((k = 0; k < many; k++)); do echo "no at record $((9 * k + 7)): P1 reply without a command"; done
+    echo "breaks $many: records $((9 * many)), exchanges $many, passed over $((3 * many)), open 0"
+} > "$work/want"
 bounded 65536 "$program" check --all < "$work/many.csv" > "$work/out" 2> "$work/err"
 status=$?
 judge 'many parts' is_composed "$work/want" 1
@@ -130,8 +107,10 @@ judge 'why of many parts' is_composed "$work/want" 1
 
 # PLAY and a late acknowledgement, many times: one part. To say why it breaks its exchanges are kept.
 records 'C 20 01 21 +9400 D 10 01 11' "$many" > "$work/late.csv"
-"$awk" -v many="$many" 'BEGIN { for (k = 0; k < many; k++) print "no at record " 6 * k + 4 ": L1 late reply"
-    print "breaks " many ": records " 6 * many ", exchanges " many ", passed over 0, open 0" }' > "$work/want"
+{
+    for ((k = 0; k < many; k++)); do echo "no at record $((6 * k + 4)): L1 late reply"; done
+    echo "breaks $many: records $((6 * many)), exchanges $many, passed over 0, open 0"
+} > "$work/want"
 run check --all "$work/late.csv"
 judge 'many late replies' is_composed "$work/want" 1
 run why --all "$work/late.csv"
@@ -148,7 +127,7 @@ records "$second_reply $play D 10" > "$second"
 } > "$work/bad.csv"
 broken='no at record 7: P1 reply without a command'
 run check --all "$work/bad.csv"
-judge 'a bad row that is passed over' is_text 3 "$broken" "$(both_lines 'unreadable at row 10: byte' 1G)"
+judge 'a bad row that is passed over' is_text 3 "$broken" "$(both_lines 'unreadable at row 10: byte' 1G "$work/bad.csv")"
 run check --all "$second"
 judge 'two breaks' is_text 1 "$broken
 no at record 16: P1 reply without a command

@@ -7,12 +7,11 @@
 # first record of the command that a sheet has to speak of, where one has. Of an export these are the words that leave the damaged byte out,
 # the verdict then, and what is said of the byte without them.
 import os, random, sys
-sys.path.insert(0, os.path.join(os.path.dirname(os.path.abspath(__file__)), '..', '..', 'bench', 'lib'))
-from blocks import ACK, bcd, block
-from faults import again, echoed, hole, inserted, other, parted, without_byte
-from sessions import ASKED, MODES, RATES, HonestDeck, exchange, rows_of, session, write
+sys.path.insert(0, os.path.join(os.path.dirname(os.path.abspath(__file__)), '..', 'lib'))
+from drawing.faults import again, echoed, hole, inserted, parted, without_byte
+from drawing.sessions import ASKED, MODES, RATES, HonestDeck, exchange, rows_of, session, write
+from wire import ACK, BYTE_GAP_US, REPLY_LIMIT_US, bcd, block, other
 
-REPLY_LIMIT_US, BYTE_GAP_US = 9287, 10287
 NAK = block(1, 0x12, 0x01)
 REMOTE = block(6, 0x20, 0x01), block(7, 0x20, 0x00)
 STOP, PLAY, EJECT, AUTO_EDIT = [(block(2, code), ACK) for code in (0x00, 0x01, 0x0F, 0x42)]

@@ -123,7 +123,7 @@ advises() { [ "$(wc -l < "$work/err")" = 1 ] && grep -q "^$1" "$work/err"; }
 # judge_export: it is refused at the damaged byte, and without it makes a capture that is a yes.
 judge_export() {
     ask convert sigrok --samplerate 2000000 "$work/$name.txt"
-    judge "$name: the damaged byte" eval '[ "$status" = 3 ] && [ "$(cat "$work/err")" = "ninecheck convert sigrok: $record" ]'
+    judge "$name: the damaged byte" eval '[ "$status" = 3 ] && [ "$(cat "$work/err")" = "ninecheck convert sigrok: $work/$name.txt: $record" ]'
     # shellcheck disable=SC2086
     "$program" convert sigrok --samplerate 2000000 $words "$work/$name.txt" > "$work/$name.csv"
     ask check "$work/$name.csv"

@@ -1,13 +1,13 @@
 #!/usr/bin/env bash
-# Draws captures, and compares what the built program says of them with the plain deck of tests/lib/deck.awk. The last line is
+# Draws captures, and compares what the built program says of them with the plain deck of tests/lib/deck. The last line is
 # 'N passed, M failed'.
 set -u
 cd "$(dirname "$0")/../.." || exit 1
+. tests/lib/tools.sh
+need_tools python3
 . tests/lib/judge.sh
 . tests/lib/program.sh
-. tests/lib/blocks.sh
-
-awk=${AWK:-awk}
+. tests/lib/drawing.sh
 
 # How many captures are drawn, every second of them with hands, and every third of a deck with a sheet.
 drawn=2400
@@ -42,24 +42,16 @@ ask() {
 
 # compare RESULTS [WORDS...]: what the plain deck says to them.
 compare() {
-    local results=$1
-    shift
-    "$awk" "$@" -f tests/lib/deck.awk -f tests/judging/list.awk -f tests/judging/touched.awk -f tests/judging/drawn.awk \
-        "$work/list" "$results"
+    python3 -B tests/judging/drawn.py "$work/list" "$@"
 }
 
-# spoil HOW: results that are spoilt in this way.
-spoil() {
-    "$awk" -v how="$1" -f tests/lib/deck.awk -f tests/judging/list.awk -f tests/judging/spoiling.awk "$work/list" "$work/results" > "$work/spoilt"
-}
-
-# is_refused ALL [WORDS...]: the comparison, with these words, refuses all of the spoilt results, or none; they are ten at least of
-# 2,400 captures.
+# is_refused HOW ALL [WORDS...]: the comparison, with these words, refuses all of the results that are wrong in this way, or none; they are
+# ten at least of 2,400 captures.
 is_refused() {
-    local all=$1 captures
-    shift
-    captures=$(grep -c '^capture ' "$work/spoilt")
-    [ "$captures" -ge $((10 * drawn / 2400)) ] && compare "$work/spoilt" "$@" | grep -qx "captures $captures, refused $((all * captures))"
+    local results=$work/spoilt/$1 all=$2 captures
+    captures=$(grep -c '^capture ' "$results")
+    compare "$results" "${@:3}" > "$results-compared"
+    [ "$captures" -ge $((10 * drawn / 2400)) ] && grep -qx "captures $captures, refused $((all * captures))" "$results-compared"
 }
 
 # at_least LEAST LABEL N: of 2,400 captures that many were drawn.
@@ -67,13 +59,13 @@ at_least() {
     [ "$(sed -nE "s/^$2 without hands ([0-9]+), with hands ([0-9]+), .*/\\$3/p" "$work/compared")" -ge $(($1 * drawn / 2400)) ]
 }
 
-draw_captures $drawn "$work" -v sheets=yes > "$work/list"
+draw_captures $drawn "$work" --sheets > "$work/list"
 # A processor asks of a part of them.
 split -n "l/$(nproc)" "$work/list" "$work/part-"
 for part in "$work"/part-*; do ask < "$part" > "$part.results" & done
 wait
 cat "$work"/part-*.results > "$work/results"
-compare "$work/results" -v fewest=yes > "$work/compared"
+compare "$work/results" --fewest > "$work/compared"
 cat "$work/compared"
 
 # Each capture is a case.
@@ -93,12 +85,12 @@ judge 'captures with hands that are a yes by what a deck does by itself' at_leas
 touches=$(sed -n 's/^touches compared: \([0-9]*\),.*/\1/p' "$work/compared")
 judge 'touches of a hand' [ "${touches:-0}" -ge $((100 * drawn / 2400)) ]
 
+mkdir "$work/spoilt"
+python3 -B tests/judging/spoiling.py "$work/list" "$work/results" "$work/spoilt"
 for how in left-out added earlier shown register local says time record yes state other-run panel kept swapped; do
-    spoil "$how"
-    judge "results that are wrong: $how" is_refused 1
+    judge "results that are wrong: $how" is_refused "$how" 1
 done
-spoil hand
-judge 'runs with more moves of a hand than needed, where the fewest are wanted' is_refused 1 -v fewest=yes
-judge 'the same, where any run will do' is_refused 0
+judge 'runs with more moves of a hand than needed, where the fewest are wanted' is_refused hand 1 --fewest
+judge 'the same, where any run will do' is_refused hand 0
 
 tell_counts

@@ -4,10 +4,10 @@
 # The last line is 'N passed, M failed'.
 set -u
 cd "$(dirname "$0")/../.." || exit 1
+. tests/lib/tools.sh
+need_tools python3
 . tests/lib/judge.sh
 . tests/lib/program.sh
-
-awk=${AWK:-awk}
 
 # How many sessions are drawn.
 sessions=${1:-200}
@@ -39,7 +39,7 @@ ask() {
     done
 }
 
-"$awk" -v number="$sessions" -v folder="$work" -f tests/lib/chance.awk -f tests/lib/records.awk -f tests/judging/honest.awk > "$work/list"
+python3 -B tests/judging/honest.py "$sessions" "$work" > "$work/list"
 # A processor asks of a part of them.
 split -n "l/$(nproc)" "$work/list" "$work/part-"
 for part in "$work"/part-*; do ask < "$part" > "$part.said" 3> "$part.rested" & done

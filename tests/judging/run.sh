@@ -113,7 +113,7 @@ judge 'no run remains' is_text 1 'no at record 34: M1 no run remains' ''
 capture_of "C 20 01 21 $ack"
 echo '2800,C,G1' >> "$work/capture.csv"
 run_of "$work/capture.csv"
-judge 'a bad row' is_text 3 '' "$(both_lines 'unreadable at row 7: byte' G1)"
+judge 'a bad row' is_text 3 '' "$(both_lines 'unreadable at row 7: byte' G1 "$work/capture.csv")"
 
 # Two of three shifts of a local deck are done: which, is not known before the register is sensed.
 capture_of "$local_at_10 $shift $shift $shift C 60 10 70 D 74 10 02 00 00 10 96"

@@ -10,7 +10,7 @@ judge 'the sheets inside the program are those of decks/' make/decks.sh --check
 
 # The short name of each sheet, and its file, as the program has them.
 names=$(sed -n 's/^ *"\(.*\)" => Some(\(.*\)),$/\1 \2/p' crates/program9/src/shipped.rt)
-judge 'there are nine' [ "$(wc -l <<< "$names")" = 9 ]
+judge 'there are nine or more' [ "$(wc -l <<< "$names")" -ge 9 ]
 judge 'each is tried where what to ask next is sought' \
     [ "$(sed -n 's/^ *Habit::[A-Za-z]* => "\(.*\)",$/\1/p' crates/asking9/src/habit.rt | sort)" = "$(cut -d ' ' -f 1 <<< "$names" | sort)" ]
 while read -r name constant; do

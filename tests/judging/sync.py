@@ -2,28 +2,24 @@
 with what it writes without it of the rows from the first that may begin a command, with the numbers moved: python3
 tests/judging/sync.py PROGRAM DRAWN, how many are drawn. The same captures are drawn each time. The last line is 'N passed, M failed'."""
 import collections
+import os
 import random
 import re
 import subprocess
 import sys
 from concurrent.futures import ThreadPoolExecutor
 
+sys.path.insert(0, os.path.join(os.path.dirname(os.path.abspath(__file__)), '..', 'lib'))
+from wire import HEADER, block_of, may_begin_command, other
+
 PROGRAM, DRAWN = sys.argv[1], int(sys.argv[2])
-HEADER = 'time_us,wire,byte'
-BYTE_GAP = 10287
 # What is asked of each capture, and the options that are drawn for it.
 WAYS = ['check', 'explain', 'run', 'why --quiet', 'check --all', 'explain --all', 'why --quiet --all']
 OPTIONS = ['', '--hands', '--rate 29.97df', '--hands --rate 30']
 
 
-def block(text):
-    """The bytes of a block that is told without its sum."""
-    body = [int(byte, 16) for byte in text.split()]
-    return body + [sum(body) % 256]
-
-
 # What a deck is asked and told while somebody edits. Some of it contradicts one another, and some breaks a rule by itself.
-EXCHANGES = [[block(part) for part in line.split('->')] for line in """61 20 01 -> 71 20 00
+EXCHANGES = [[block_of(part) for part in line.split('->')] for line in """61 20 01 -> 71 20 00
 61 20 01 -> 71 20 00
 61 20 01 -> 71 20 01
 61 20 04 -> 74 20 00 20 00 01
@@ -61,10 +57,6 @@ def traffic(draw):
 def some_gap(draw):
     """At a limit, one microsecond above it, or far above."""
     return draw.choice([9287, 9288, 10287, 10288, 30000])
-
-
-def other(wire):
-    return 'D' if wire == 'C' else 'C'
 
 
 def damage(draw, records):
@@ -121,7 +113,7 @@ def capture(draw):
 def begins_at(rows):
     """The place of the first record that may begin a command, or the end."""
     for k in range(1, len(rows)):
-        if rows[k][1] == 'C' and (rows[k - 1][1] == 'D' or rows[k][0] - rows[k - 1][0] > BYTE_GAP):
+        if may_begin_command(rows[k], rows[k - 1]):
             return k
     return len(rows)
 

@@ -320,9 +320,9 @@ no at record 4: L2 no reply'
 capture_of "C 20 01 21 $ack"
 echo '2800,C,G1' >> "$work/capture.csv"
 why "$work/capture.csv"
-judge 'a bad row' is_text 3 '' "$(both_lines 'unreadable at row 7: byte' G1)"
+judge 'a bad row' is_text 3 '' "$(both_lines 'unreadable at row 7: byte' G1 "$work/capture.csv")"
 why "$work/capture.csv" --hands
-judge 'a bad row, with hands' is_text 3 '' "$(both_lines 'unreadable at row 7: byte' G1)"
+judge 'a bad row, with hands' is_text 3 '' "$(both_lines 'unreadable at row 7: byte' G1 "$work/capture.csv")"
 capture_of "$remote $preset $sensed_at_11"
 echo '12000,C,G1' >> "$work/capture.csv"
 why "$work/capture.csv"

@@ -12,9 +12,9 @@ preset="C 44 14 00 00 00 10 68 $ack"
 local_at_10='C 61 20 04 85 D 74 20 01 20 00 01 B6 C 60 10 70 D 74 10 00 00 00 10 94'
 shift="C 40 18 58 $ack"
 
-# records RECORDS [TIMES]: writes a capture of these records, so often; tests/lib/records.awk tells their words.
+# records RECORDS [TIMES]: writes a capture of these records, so often; tests/README.md tells their words.
 records() {
-    awk -v turns="${2-1}" -f tests/lib/records.awk <<< "$1"
+    /usr/bin/python3 -I -S -B tests/lib/records.py "${2-1}" <<< "$1"
 }
 
 # capture_of RECORDS: makes $work/capture.csv of them.
@@ -26,14 +26,4 @@ capture_of() {
 repeated() {
     local k
     for ((k = 0; k < $1; k++)); do echo "$2"; done
-}
-
-# draw_captures N FOLDER [WORDS...], damage_captures N FOLDER: draws captures, and damages those that were drawn. The heads of the two
-# programs tell what they write, and their words.
-draw_captures() {
-    "${AWK:-awk}" -v number="$1" -v folder="$2" "${@:3}" -f tests/lib/chance.awk -f tests/lib/deck.awk -f tests/lib/records.awk \
-        -f tests/lib/drawing.awk
-}
-damage_captures() {
-    "${AWK:-awk}" -v number="$1" -v folder="$2" -f tests/lib/chance.awk -f tests/lib/records.awk -f tests/lib/damaging.awk
 }

@@ -21,15 +21,23 @@ show() {
 mkdir "$work/other"
 printf '#!/bin/sh\necho "parallel: invalid option" >&2\nexit 1\n' > "$work/other/parallel"
 chmod +x "$work/other/parallel"
-PATH=$work/other:$PATH missing_tools parallel > "$work/out"
-is_same 'another parallel is not GNU parallel' parallel "$work/out"
+(PATH=$work/other:$PATH need_tools parallel) > "$work/out"
+is_same 'another parallel is not GNU parallel' 'FAILED not there: parallel; `make tools` installs parallel
+0 passed, 1 failed' "$work/out"
 
 # The commands of the page, in their order; each runs in $work with the built program on its path.
 mkdir "$work/bin" "$work/captures" "$work/captures/a night"
 ln -s "$program" "$work/bin/ninecheck"
 cp examples/play.csv examples/second-reply.csv "$work/captures"
 cp examples/late-reply.csv examples/bad-byte.csv examples/open-command.csv "$work/captures/a night"
-mapfile -t command < <(sed -n '/^## Many captures/,$s/^    \(find\|cut\|sed\)/\1/p' docs/CAPTURE.md)
+# A line that is further in belongs to the command before.
+command=()
+while IFS= read -r line; do
+    case $line in
+        '        '*) [ ${#command[@]} = 0 ] || command[-1]+=$'\n'${line#    } ;;
+        '    find'* | '    cut'* | '    sed'*) command+=("${line#    }") ;;
+    esac
+done < <(sed -n '/^## Many captures/,$p' docs/CAPTURE.md)
 page() {
     (cd "$work" && PATH="$work/bin:$PATH" sh -c "${command[$1]}") > "$work/out" 2>&1
 }

@@ -14,7 +14,7 @@ blocks() {
     records "${1//,/ sum } sum"
 }
 
-# table TITLE: the rows of the first table after this title, their cells parted by bars without blanks and marks.
+# table TITLE: the rows of the tables after this title, their cells parted by bars without blanks and marks.
 table() {
     sed -n "/^### $1/,/^##/p" docs/PROFILE.md | grep '^| `' | sed 's/^| //; s/ |$//; s/`//g; s/ | /|/g'
 }
@@ -42,8 +42,15 @@ reply_of() {
 known='C 61 20 01,D 71 20 00,C 20 00,D 10 01,C 61 20 12,D 72 20 20 00,C 44 14 00 00 00 10,D 10 01'
 recording='C 61 20 12,D 72 20 02 00'
 rows=0
-while IFS='|' read -r command name forgets sheet replies; do
+while IFS='|' read -r command name sheet; do
     first=${command%% *}
+    # Group 2 touches the tape and the registers, group 4 the registers. Of a sense request the table has the replies.
+    replies='10 01'
+    case $first in
+        2*) forgets='the tape and the registers' ;;
+        4*) forgets='the registers' ;;
+        *) forgets=nothing replies=$sheet sheet='not named' ;;
+    esac
     data=$(printf "%$((0x$first % 16))s" '' | sed 's/ / 00/g')
     blocks "$known,C $command$data,D 10 01" | "$program" explain > "$work/out" 2>&1
     is_told 'its bytes' ": $command -> ACK,"
@@ -51,7 +58,6 @@ while IFS='|' read -r command name forgets sheet replies; do
     case $forgets in
         nothing) is_told 'IN is kept' ', in 10:00:00:00,' ;;
         'the registers' | 'the tape and the registers') is_told 'IN is forgotten' ', in unknown,' ;;
-        *) judge "$command: what is forgotten" false ;;
     esac
     blocks "$known,C $command$data,D 10 01,$recording" | "$program" check > "$work/out" 2>&1
     case $sheet in

@@ -28,6 +28,7 @@ records 'C 20 01 21 +9400 D 10 01 11' "$many" > "$work/late.csv"
 # run_failing WORDS FILE CALL N HOW: the program with call N failing. Leaves its status and its streams, and in $reads and
 # $writes how often it called.
 run_failing() {
+    capture=$2
     rm -f "$work/calls"
     CALLS="$work/calls" CALL=$3 FAIL_AT=$4 FAIL_HOW=$5 LD_PRELOAD="$library" \
         "$program" ${1/#why/why --quiet} "$2" > "$work/out" 2> "$work/err"
@@ -59,7 +60,7 @@ is_write_fault() {
 
 # is_said_of_first: standard error has a first line, the second that belongs to it, and no more.
 is_said_of_first() {
-    [ "$(cat "$work/err")" = "$(both_lines "$(head -n 1 "$work/err")")" ]
+    [ "$(cat "$work/err")" = "$(both_lines "$(head -n 1 "$work/err")" '' "$capture")" ]
 }
 
 # is_read_fault: the program ended with the read that failed, at some row of the text, and wrote no verdict, and of a
@@ -150,7 +151,7 @@ answer=0
 # expect_row N WANT: the row that is named where read N of PLAY fails.
 expect_row() {
     run_failing check examples/play.csv read "$1" EIO
-    judge "read $1 of PLAY" is_text 4 '' "$(both_lines "read fault at row $2")"
+    judge "read $1 of PLAY" is_text 4 '' "$(both_lines "read fault at row $2" '' examples/play.csv)"
 }
 
 # The first read fails in the header; the last, which finds the end, comes after the six rows.

@@ -15,7 +15,8 @@ told() {
 
 # is_refused LINES: the last run ended at the row that is one too many, after so many lines.
 is_refused() {
-    printf '%s\n' 'unreadable at row 4000001: too many rows' 'expected at most 4000000 rows; --all judges a longer capture' > "$work/want"
+    printf '%s\n' 'unreadable at row 4000001: too many rows' \
+        "$work/long.csv: expected at most 4000000 rows; --all judges a longer capture" > "$work/want"
     [ "$status" = 3 ] && has_lines "$1" && cmp -s "$work/err" "$work/want"
 }
 
@@ -87,6 +88,6 @@ $broken
 $totals" ''
 echo "$((400 * (rows + 2))),C" >> "$work/whole.csv"
 run check --all "$work/whole.csv"
-expect 'check --all, a bad row behind so many others' 3 "$broken" "$(both_lines "unreadable at row $((rows + 2)): fields")"
+expect 'check --all, a bad row behind so many others' 3 "$broken" "$(both_lines "unreadable at row $((rows + 2)): fields" '' "$work/whole.csv")"
 
 tell_counts

@@ -11,12 +11,13 @@ EXAMPLES = [row.split('|')[0] for row in open('examples/ANSWERS', encoding='utf-
 REPORTS = ('check', 'explain', 'explain --bytes', 'run', 'why', 'check --all', 'explain --all --bytes', 'why --all', 'explain --hands',
            'run --hands', 'why --hands')
 
-# The keys of each kind of line: rows `| `KEY` | TYPE | ...` of the table below the heading "### `KIND`", or of "### What .. share".
+# The keys of each kind of line: rows `| `KEY`, `KEY` | TYPE | ...` of the tables below the headings that name it, "### `KIND`, `KIND`".
 TYPES = {'number': int, 'text': str, 'object': dict, 'list of texts': list}
 COUNTS = ('first_record', 'record', 'records', 'exchanges', 'passed_over', 'open', 'breaks')
 keys_of = {}
 for section in PAGE.split('\n### ')[1:]:
-    rows = dict(re.findall(r'^\| `(\w+)` \| ([a-z ]+) \|', section, re.M))
+    rows = {key: type for keys, type in re.findall(r'^\| ((?:`\w+`(?:, )?)+) \| ([a-z ]+) \|', section, re.M)
+            for key in re.findall(r'\w+', keys)}
     for kind in re.findall(r'`(\w+)`', section.split('\n')[0]):
         keys_of.setdefault(kind, {'line': 'text'}).update(rows)
 

@@ -366,7 +366,7 @@ long_lists() {
 refusals() {
     printf 'time_us,wire,byte\n400,C,61\n800,X,20\n' > "$work/capture.csv"
     page
-    expect "a bad row" 3 '' "$("$program" check "$work/capture.csv" 2>&1)"
+    expect "a bad row" 3 '' "$(cd "$work/captures" && "$program" check "$name" 2>&1)"
     rm "$work/capture.csv" "$work/captures/$name"
     page
     expect "no such file" 4 '' 'cannot open

@@ -5,10 +5,11 @@
 set -u
 cd "$(dirname "$0")/../.." || exit 1
 . tests/lib/tools.sh
-need_tools mawk tidy
+need_tools python3 tidy
 . tests/lib/judge.sh
 . tests/lib/program.sh
 . tests/lib/blocks.sh
+. tests/lib/drawing.sh
 
 # Commands with their replies: one that comes 9,400 microseconds after PLAY, STOP, a sense of OUT that is refused, CURRENT TIME
 # SENSE, and senses of IN that answer 10:00:09:24, which is 249 frames after 10:00:00:00, and 11:00:00:00.
@@ -247,9 +248,9 @@ r6-2: 00:00:00.002 record 6 B1'
 drawn() {
     if [ ! -e "$work/drawn.csv" ]; then
         mkdir "$work/drawn"
-        AWK=mawk draw_captures 10 "$work/drawn" > "$work/list"
-        AWK=mawk damage_captures 10 "$work/drawn"
-        mawk -F, -v OFS=, 'FNR == 1 { if (NR == 1) print; before += last + 3000; next }
+        draw_captures 10 "$work/drawn" > "$work/list"
+        damage_captures 10 "$work/drawn"
+        awk -F, -v OFS=, 'FNR == 1 { if (NR == 1) print; before += last + 3000; next }
             { last = $1; $1 = sprintf("%.0f", before + $1); print }' "$work"/drawn/*-damaged.csv > "$work/drawn.csv"
     fi
     page_of "$work/drawn.csv"

@@ -437,13 +437,13 @@ def check_late_contradiction():
 def check_refusals(work):
     """Where there is nothing to draw, or the words are wrong, a line says so; all else that is refused is told as `check` does."""
     late, several, play = 'examples/late-reply.csv', 'examples/views/several-breaks.csv', 'examples/play.csv'
-    for words, why in (
-            ([play], 'the verdict is a yes'), ([play, '--all'], 'no part breaks'), (['examples/header-only.csv'], 'the verdict is a yes'),
-            ([play, '--at', '3'], 'the verdict is a yes'), (['--hands', 'examples/disputed-in-point.csv'], 'the verdict is a yes'),
-            ([late, '--at', '5'], 'there is no break at record 5'), ([several, '--at', '39'], 'there is no break at record 39'),
-            ([several, '--all', '--at=23'], 'there is no break at record 23')):
+    for words, status, why in (
+            ([play], 0, 'the verdict is a yes'), ([play, '--all'], 0, 'no part breaks'), (['examples/header-only.csv'], 0, 'the verdict is a yes'),
+            ([play, '--at', '3'], 0, 'the verdict is a yes'), (['--hands', 'examples/disputed-in-point.csv'], 0, 'the verdict is a yes'),
+            ([late, '--at', '5'], 2, 'there is no break at record 5'), ([several, '--at', '39'], 2, 'there is no break at record 39'),
+            ([several, '--all', '--at=23'], 2, 'there is no break at record 23')):
         done = run(['picture', *words])
-        judge(f'nothing to draw: {words}: {done}', done == (2, '', f'nothing to draw: {why}\n'))
+        judge(f'nothing to draw: {words}: {done}', done == (status, '', f'nothing to draw: {why}\n'))
     for option, value, why in (
             *(('--width <PIXELS>', value, 'a width is a number from 700 on') for value in ('20', '699', 'wide', '', '1e3')),
             *(('--at <RECORD>', value, 'a record has a number from 1 on') for value in ('0', 'last', '', '-1'))):

@@ -5,10 +5,10 @@
 set -u
 cd "$(dirname "$0")/../.." || exit 1
 . tests/lib/tools.sh
-need_tools node=nodejs chromium
+need_tools node=nodejs chromium python3
 . tests/lib/judge.sh
 . tests/lib/program.sh
-. tests/lib/blocks.sh
+. tests/lib/drawing.sh
 
 pages=${1:-20}
 
@@ -16,7 +16,7 @@ pages=${1:-20}
 draw_captures $((pages * 2)) "$work" > /dev/null
 damage_captures $((pages * 2)) "$work"
 for ((k = 1; k <= pages * 2; k++)); do echo "$work/$k-damaged.csv"; done > "$work/captures"
-"${AWK:-awk}" -f tests/lib/chance.awk -f tests/views/stretches.awk "$work/captures" > "$work/drawn"
+python3 -B tests/views/stretches.py < "$work/captures" > "$work/drawn"
 
 # make_page CAPTURE WORDS STRETCH: the page, where the capture breaks a rule when it is judged with these words.
 made=0

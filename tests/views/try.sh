@@ -3,9 +3,12 @@
 # line is what `check` says with its words. The last line is 'N passed, M failed'.
 set -u
 cd "$(dirname "$0")/../.." || exit 1
+. tests/lib/tools.sh
+need_tools python3
 . tests/lib/judge.sh
 . tests/lib/program.sh
 . tests/lib/blocks.sh
+. tests/lib/drawing.sh
 
 # ask WORDS...: the program; its streams are left in $work/out and $work/err.
 ask() {
@@ -243,7 +246,7 @@ expect 'why of a bad row' 3 '' "$(cat "$work/said")"
 ask why --line-buffered examples/drop-frame.csv
 judge 'why that is watched' [ "$status" = 1 -a ! -s "$work/err" ]
 ask why --help
-judge 'the help of why' eval '[ "$status" = 2 ] && grep -q -e --quiet "$work/out"'
+judge 'the help of why' eval '[ "$status" = 0 ] && grep -q -e --quiet "$work/out"'
 for word in check run explain json 'json why' touches; do
     # shellcheck disable=SC2086
     ask $word --quiet examples/play.csv

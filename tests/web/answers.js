@@ -1,5 +1,5 @@
 // node answers.js MODULE.wasm PROGRAM CASES: asks the module and the built program the same, and holds what comes of both together: the
-// status, both streams and the files that were made, byte for byte. CASES has what tests/cases/cases.awk made of the tables. Before the
+// status, both streams and the files that were made, byte for byte. CASES has what tests/lib/tables.py made of the tables. Before the
 // last line, 'N passed, M failed', stands what differs.
 'use strict';
 const fs = require('fs');
@@ -103,8 +103,8 @@ function all_cases() {
         const input = fs.readFileSync(name);
         const lists = new Set(fs.readFileSync(name.replace(/csv$/, 'words'), 'utf8').trim().split('\n'));
         lists.add(OF_A_CAPTURE[turn++ % (OF_A_CAPTURE.length - 1)].join(' '));
-        // What Linux alone has a name for, such as /dev/stdin, is no file of a page.
-        for (const words of lists) if (!words.includes('/dev/')) same(words.split(/ +/), room, input);
+        // A page has no /dev/stdin, and hands out a part under any name: it has no folder to make it in.
+        for (const words of lists) if (!/\/dev\/|--to \S*\//.test(words)) same(words.split(/ +/), room, input);
     }
 }
 

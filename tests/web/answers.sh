@@ -10,12 +10,7 @@ need_tools node=nodejs
 . tests/lib/browser.sh
 
 mkdir "$work/cases"
-for table in tests/cases/*.txt; do
-    name=$(basename "$table" .txt)
-    mkdir "$work/cases/$name"
-    judge "$table can be read" awk -v into="$work/cases/$name" -f tests/lib/records.awk -f tests/cases/cases.awk -f tests/cases/session.awk \
-        tests/lib/blocks.txt "$table"
-done
+judge_all 'the tables' /usr/bin/python3 -B tests/lib/tables.py "$work/cases" tests/cases/*.txt
 judge_all 'the answers' node tests/web/answers.js "$wasm" "$program" "$work/cases"
 
 tell_counts

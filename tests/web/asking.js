@@ -8,11 +8,13 @@ const { ask, Fault } = require('../../web/host.js');
 // What Linux calls the reasons for which a file isn't opened. The program was told them by the system, so it is told them here.
 const ERRNO = { ENOENT: 2, EACCES: 13, ENOTDIR: 20, EISDIR: 21, ENAMETOOLONG: 36 };
 
-// The files below a folder, as a host gives them.
+// The files below a folder, as a host gives them. A name is as the system reads it: no file has an empty one, and behind a file's
+// name stands no `/`.
 const files_below = folder => ({
     get(name) {
+        if (name === '') return -ERRNO.ENOENT;
         try {
-            return new Uint8Array(fs.readFileSync(path.resolve(folder, name)));
+            return new Uint8Array(fs.readFileSync(path.isAbsolute(name) ? name : `${folder}/${name}`));
         } catch (error) {
             if (!(error.code in ERRNO)) throw error;
             return -ERRNO[error.code];

@@ -211,7 +211,7 @@ async function refusals() {
     await refused('two captures', [example('play.csv'), example('gap.csv')], 'These are several captures');
     await open_tab('picture');
     equals('a picture of a yes', await text('panel-said'), 'nothing to draw: no part breaks\n');
-    judge('its status in words', (await text('panel-note')).startsWith('Status 2: there is nothing to draw'));
+    judge('its status in words', (await text('panel-note')).startsWith('Status 0: yes, so there is nothing to draw'));
     await open_tab('page');
 }
 
