@@ -12,7 +12,7 @@ const TAKES = {
 
 const STATUS = ['yes', 'no', 'the program does not take these words', 'this can’t be read', 'this can’t be opened, or read to its end',
     'not enough memory'];
-const STATUS_OF = { info: ['the capture can be read'], picture: ['', 'the picture of a no', 'there is nothing to draw'] };
+const STATUS_OF = { info: ['the capture can be read'], picture: ['yes, so there is nothing to draw', 'the picture of a no', 'this record breaks nothing'] };
 const status_text = (said, view) => `Status ${said.status}: ${(STATUS_OF[view] || STATUS)[said.status] || STATUS[said.status]}`;
 
 function element(id) {
