@@ -51,25 +51,10 @@ step() {
     echo "$sum" > "$file.made-from"
 }
 
-# The module of the proved program. `rattle build` proves the program once more over its libraries as they were built, and hands the module
-# to the clang of the folder that it is given; the one here hands it on as it is.
+# The module of the proved program. `rattle build` hands it to the clang of the folder that it is given; the one here hands it on as it is.
 lower() {
-    renew_libraries
     hand_on
-    mapfile -t words < <(words_for_rattle)
-    (cd crates/ninecheck && "$kit/bin/rattle" build "${words[@]}" --toolchain "$top/$work/hands_on" -o "$top/$work/module.bc") \
-        > "$work/lower.log" 2>&1 || { cat "$work/lower.log" >&2; exit 1; }
-    grep -q '^logic=proved ' "$work/lower.log" || { cat "$work/lower.log" >&2; exit 1; }
-}
-
-# Libraries that were built in a crate's folder have a stamp, and may be of an earlier state than the program: `rt lib` proves and builds
-# those again, and else does nothing. Those that the gate built have none, and are the program's own.
-renew_libraries() {
-    local library
-    compgen -G 'crates/*/out/rlib/stamp' > /dev/null || return 0
-    for library in $(sed -n 's/^ninecheck: *//p' crates.txt); do
-        (cd "crates/$library" && rt lib) > "$work/libraries.log" 2>&1 || { cat "$work/libraries.log" >&2; exit 1; }
-    done
+    make/build_again.sh "$work/module.bc" "$work/lower.log" "$work/hands_on"
 }
 
 # The folder of a toolchain whose clang hands on. It is started in an empty environment, so it finds nothing by a path.
@@ -81,24 +66,6 @@ hand_on() {
         [ "${tool##*/}" = clang ] || ln -s "$tool" "$work/hands_on/bin"
     done
     install -m 755 web/hand_on.sh "$work/hands_on/bin/clang"
-}
-
-# What `rattle build` is told of the program, a word a line: its libraries of this repository and of the kit, where those below them stand, and
-# what was proved of it before, if `make` proved it.
-words_for_rattle() {
-    local crate library
-    printf '%s\n' --crate-name ninecheck src/main.rt --extern "std=$kit/rlibs/std.rlib" -L "dependency=$kit/rlibs"
-    for library in $(sed -n 's/^ninecheck: *//p' crates.txt); do
-        if [ -d "crates/$library" ]; then
-            printf '%s\n' --extern "$library=$top/crates/$library/out/rlib/$library.rlib"
-        else
-            printf '%s\n' --extern "$library=$kit/rlibs/$library.rlib"
-        fi
-    done
-    for crate in crates/*/out/rlib; do printf '%s\n' -L "dependency=$top/$crate"; done
-    printf '%s\n' --antt-project "$kit/rattle/logic/antt-project.json" --logic-built "$kit/logic_built"
-    printf '%s\n' --links ninecheck= --backend llvm
-    [ ! -d crates/ninecheck/out/incremental ] || printf '%s\n' --incremental out/incremental
 }
 
 for_wasm=(--target=wasm64-unknown-unknown -mcpu=lime1 -O3 -ffunction-sections -fdata-sections)
@@ -130,7 +97,7 @@ link() {
 }
 
 mkdir -p "$work"
-step "$work/module.bc" 'the module of the proved program is made: about a minute' lower "$program" web/hand_on.sh
+step "$work/module.bc" 'the module of the proved program is made: about a minute' lower "$program" web/hand_on.sh make/build_again.sh
 step "$work/program.o" 'it is compiled for WebAssembly: about two minutes' compile "$work/module.bc" web/retarget.py
 step "$work/ninecheck.wasm" 'it is linked' link "$work/program.o" web/*.c web/integers.h web/untable.py
 

@@ -106,10 +106,14 @@ lacks() {
     status=$?
     expect "without $1" 1 '' "the program is not linked statically: $2"
 }
-lacks 'the object' 'crates/ninecheck/out/ninecheck.o is missing, which `make` leaves beside the program'
-touch "$copy/crates/ninecheck/out/ninecheck.o"
 lacks 'the kit' '`rt`, the command of the Rattle kit, is not on the path'
 ln -s "$(command -v rt)" "$work/few/rt"
 lacks 'a compiler' '`gcc` is missing: it is in the package of that name'
+# Here the built program has no object, and nothing to make one of.
+(cd "$copy" && make/static.sh) > "$work/out" 2> "$work/said"
+status=$?
+tail -n 1 "$work/said" > "$work/err"
+expect 'without the libraries' 1 'the object of the built program is made: about a minute' \
+    'the program is not linked statically: its object was not made: what stands above says why'
 
 tell_counts
