@@ -4,7 +4,7 @@ pub use Rattle.sets25.proofs.Words.{drop_more_same, end_to_end, ended_at, eq-eqb
 pub use Rattle.sets25.proofs.Words.{get_or_default, Global, image, is_covered, is_ok, IsNonDecreasingBy-from_default, IsPartitionedBy-leb, IsPartitionedBy-ltb}
 pub use Rattle.sets25.proofs.Words.{IsPartitionPoint-from_clause, leb, length, length-append, length-drop, length-take, list_any_at, lists_in, lists_of, ltb, map-append}
 pub use Rattle.sets25.proofs.Words.{map_over_more, members_of, nat_cmp, nat_cmp_total, nat_tests, Next, next_frame, on_err_weaker, on_ok_weaker, Prev, prev_frame, refl, remove}
-pub use Rattle.sets25.proofs.Words.{rules, searched, set, set-get_or, set_split, shifted_span, Span, spans_of, suc, sym, take, take-append-drop, take-map, take_more_set, take_rest}
+pub use Rattle.sets25.proofs.Words.{rules, searched, set, set-get_or, set_split, shifted_span, Span, spans_held, spans_of, suc, sym, take, take-append-drop, take-map, take_more_set, take_rest}
 pub use Rattle.sets25.proofs.Words.{true, Vec, with_frame, ◌+◌, ◌-◌, ◌/◌, ◌<◌, ◌∙◌, ◌∷◌, ◌≡◌}
 pub use Rattle.sets25.proofs.TimesLemmas.{contains-just, contains-moved, even_day, image_from, image_to, least_from, none_passes, times_where-common, times_where-empty}
 pub use Rattle.sets25.proofs.TimesLemmas.{times_where-every, times_where-insert, times_where-just, times_where-moved, times_where-union, times_where-widened, two_iff}

@@ -18,6 +18,7 @@ pub use Rattle.std.specs.List.{list_any}
 pub use Rattle.std.specs.List.Sorted.{IsNonDecreasingBy}
 pub use Rattle.tc25.specs.Day.{day, last_frame, longest_day, next_frame, prev_frame}
 pub use Rattle.sets25.specs.Frames.{AreFramesOfDay, Ascending, is_listed}
+pub use Rattle.sets25.specs.HeldSpans.{spans_held}
 pub use Rattle.sets25.specs.ListSet.{members_of}
 pub use Rattle.sets25.specs.ShortLists.{AllFilled, end_to_end, lists_in}
 pub use Rattle.sets25.specs.SpanList.{lists_of, spans_of}

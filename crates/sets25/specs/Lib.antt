@@ -1,4 +1,5 @@
 pub mod Frames
+pub mod HeldSpans
 pub mod ListSet
 pub mod SharedDay
 pub mod SharedSet

@@ -2,6 +2,7 @@
 #![tactic(auto)]
 
 mod direction;
+mod held_spans;
 mod laws;
 mod list_set;
 mod shared_set;

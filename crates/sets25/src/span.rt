@@ -2,6 +2,7 @@
 
 ghost use Rattle.std.specs.Prelude.{◌≡◌, ◌≤◌, ◌<◌};
 ghost use Rattle.tc25.specs.Day.{longest_day};
+ghost use Rattle.sets25.specs.Spans.{in_span};
 ghost use Rattle.sets25.specs.Working.SpanMoves.{point, shifted_span, widened_span};
 
 use crate::direction::Direction;
@@ -23,6 +24,13 @@ impl Span {
             first: frame,
             last: frame,
         }
+    }
+
+    /// Whether a frame is in the span.
+    pub(crate) fn contains(self, frame: u32) -> bool
+        ensures { result ≡ in_span frame self }
+    {
+        self.first <= frame && frame <= self.last
     }
 
     /// The span one frame on or back. What leaves the day is cut off.

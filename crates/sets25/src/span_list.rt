@@ -50,11 +50,6 @@ impl SpanList {
         self.first.is_empty()
     }
 
-    /// Where its memory comes from.
-    pub(crate) fn allocator(&self) -> Global {
-        *self.first.allocator()
-    }
-
     /// The number of spans. It takes a step for each list.
     pub(crate) fn len(&self) -> usize
         requires { IsCanonical 0 (spans_of self.now) }
@@ -101,7 +96,7 @@ impl SpanList {
     pub(crate) fn copy(&self) -> Result<SpanList, AllocError>
         ensures { IfOk result (λ l. lists_of l ≡ lists_of self.now) }
     {
-        let alloc = self.allocator();
+        let alloc = *self.first.allocator();
         let first = Vec::from_slice(alloc, &self.first)?;
         let mut rest = Vec::with_capacity(alloc, self.rest.len())?;
         for list in &self.rest {
@@ -127,7 +122,7 @@ impl SpanList {
     }
 
     /// Adds the frames of a span. Where memory is refused, it may have added some of them.
-    fn add_span(&mut self, span: Span) -> Result<(), AllocError>
+    pub(crate) fn add_span(&mut self, span: Span) -> Result<(), AllocError>
         requires canonical { IsCanonical 0 (spans_of self.old) }
         requires in_day { IsSpan span }
         ensures canonical { IsCanonical 0 (spans_of self.new) }
@@ -150,17 +145,6 @@ impl SpanList {
             self.add_span(*span)?;
         }
         Ok(())
-    }
-
-    /// Keeps one frame alone, where it is in a span, and else nothing. Takes no memory.
-    pub(crate) fn keep_only(&mut self, frame: u32)
-        requires canonical { IsCanonical 0 (spans_of self.old) }
-        requires in_day { frame < longest_day }
-        ensures { spans_of self.new ≡ (if is_covered frame (spans_of self.old) then point frame ∷ [] else []) }
-    {
-        let place = self.place_of(frame);
-        self.keep_list(place);
-        spans::keep_only(&mut self.first, frame);
     }
 
     /// Moves each frame by one, round the day.
@@ -237,17 +221,6 @@ impl SpanList {
         self.first = self.as_one()?;
         self.rest.clear();
         Ok(())
-    }
-
-    /// Makes the list at a place the only one.
-    fn keep_list(&mut self, place: usize)
-        requires { place ≤ length self.old.rest.items }
-        ensures { lists_of self.new ≡ slice_index_or (lists_of self.old) place [] ∷ [] }
-    {
-        if let Some(index) = place.checked_sub(1) {
-            self.first = self.rest.swap_remove(index);
-        }
-        self.rest.clear();
     }
 
     /// Cuts the list at a place in halves, if it is long.

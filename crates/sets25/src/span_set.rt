@@ -1,25 +1,26 @@
 //! A set of times as a sorted list of spans.
 
-ghost use Rattle.sets25.specs.SpanList.{spans_of};
+ghost use Rattle.sets25.specs.HeldSpans.{spans_held};
 ghost use Rattle.sets25.specs.Spans.{AreSpansOfDay, AreSpansOfDay-prop, IsCanonical, IsCanonical-prop};
 
 use crate::direction::Direction;
+use crate::held_spans::HeldSpans;
 use crate::span::Span;
-use crate::span_list::SpanList;
 use crate::time_set::TimeSet;
 use std::alloc::{AllocError, Global};
 use tc25::{Rate, TimeCode};
 
-/// A set of times as the list of its spans, in ascending order.
+/// A set of times as its spans, in ascending order. One of at most one span takes no memory.
 ///
 /// Each span begins at least two frames above the end of the one before, so a set has one list of
 /// spans. The last frame of the day and frame 0 are in one span only where that is the whole day.
 #[derive(Drop)]
 pub struct SpanSet {
-    spans: SpanList,
+    alloc: Global,
+    spans: HeldSpans,
     rate: Rate,
-    ghost canonical: { IsCanonical 0 (spans_of spans) } by { IsCanonical-prop 0 (spans_of spans) },
-    ghost of_day: { AreSpansOfDay rate (spans_of spans) } by { AreSpansOfDay-prop rate (spans_of spans) },
+    ghost canonical: { IsCanonical 0 (spans_held spans) } by { IsCanonical-prop 0 (spans_held spans) },
+    ghost of_day: { AreSpansOfDay rate (spans_held spans) } by { AreSpansOfDay-prop rate (spans_held spans) },
 }
 
 impl SpanSet {
@@ -39,7 +40,7 @@ impl SpanSet {
 
     /// Where its memory comes from.
     pub(crate) fn allocator(&self) -> Global {
-        self.spans.allocator()
+        self.alloc
     }
 
     /// The set with the members of another one, of times of the same day.
@@ -48,9 +49,13 @@ impl SpanSet {
         ensures members { IfOk result (λ s. members_of s ≡ set.union (members_of self) (members_of other.now)) }
         ensures rate { IfOk result (λ s. s.rate ≡ self.rate) }
     {
-        let SpanSet { mut spans, rate } = self;
-        spans.add_all(&other.spans)?;
-        Ok(SpanSet { spans, rate })
+        let SpanSet {
+            alloc,
+            mut spans,
+            rate,
+        } = self;
+        spans.add_all(alloc, &other.spans)?;
+        Ok(SpanSet { alloc, spans, rate })
     }
 }
 
@@ -67,7 +72,8 @@ impl TimeSet for SpanSet {
 
     fn none_at(alloc: Global, rate: Rate) -> Self {
         SpanSet {
-            spans: SpanList::from_spans(Vec::new(alloc)),
+            alloc,
+            spans: HeldSpans::none(),
             rate,
         }
     }
@@ -78,7 +84,8 @@ impl TimeSet for SpanSet {
             last: rate.last_frame(),
         };
         Ok(SpanSet {
-            spans: SpanList::from_spans(Vec::from_slice(alloc, &[day])?),
+            alloc,
+            spans: HeldSpans::one(day),
             rate,
         })
     }
@@ -89,7 +96,8 @@ impl TimeSet for SpanSet {
             return Ok(SpanSet::none_at(alloc, rate));
         }
         Ok(SpanSet {
-            spans: SpanList::from_spans(Vec::from_slice(alloc, &[Span::of(frame)])?),
+            alloc,
+            spans: HeldSpans::one(Span::of(frame)),
             rate,
         })
     }
@@ -125,19 +133,19 @@ impl TimeSet for SpanSet {
     }
 
     fn shift_next(&mut self) -> Result<(), AllocError> {
-        self.spans.shift(Direction::Next, self.rate)
+        self.spans.shift(self.alloc, Direction::Next, self.rate)
     }
 
     fn shift_prev(&mut self) -> Result<(), AllocError> {
-        self.spans.shift(Direction::Prev, self.rate)
+        self.spans.shift(self.alloc, Direction::Prev, self.rate)
     }
 
     fn widen_next(&mut self) -> Result<(), AllocError> {
-        self.spans.widen(Direction::Next, self.rate)
+        self.spans.widen(self.alloc, Direction::Next, self.rate)
     }
 
     fn widen_prev(&mut self) -> Result<(), AllocError> {
-        self.spans.widen(Direction::Prev, self.rate)
+        self.spans.widen(self.alloc, Direction::Prev, self.rate)
     }
 
     fn add(&mut self, time: TimeCode) -> Result<(), AllocError> {
@@ -145,7 +153,7 @@ impl TimeSet for SpanSet {
         if frame >= self.rate.frames_in_day() {
             return Ok(());
         }
-        self.spans.add(frame)
+        self.spans.add(self.alloc, frame)
     }
 
     fn keep_only(&mut self, time: TimeCode) -> Result<(), AllocError> {
@@ -155,6 +163,7 @@ impl TimeSet for SpanSet {
 
     fn copy(&self) -> Result<Self, AllocError> {
         Ok(SpanSet {
+            alloc: self.alloc,
             spans: self.spans.copy()?,
             rate: self.rate,
         })

@@ -45,20 +45,6 @@ pub(crate) fn add(spans: &mut Vec<Span>, frame: u32) -> Result<(), AllocError>
     Ok(())
 }
 
-/// Keeps one frame alone, where it is in a span, and else nothing. Takes no memory.
-pub(crate) fn keep_only(spans: &mut Vec<Span>, frame: u32)
-    requires canonical { IsCanonical 0 spans.old.items }
-    requires in_day { frame < longest_day }
-    ensures { spans.new.items ≡ (if is_covered frame spans.old.items then point frame ∷ [] else []) }
-{
-    if contains(spans, frame) && !spans.is_empty() {
-        spans.truncate(1);
-        spans[0] = Span::of(frame);
-    } else {
-        spans.clear();
-    }
-}
-
 /// The index of the first span that ends at `frame` or later, by binary search.
 fn place_of(spans: &[Span], frame: u32) -> usize
     requires { IsCanonical 0 spans.now }

@@ -9,7 +9,7 @@ use Rattle.tc25.specs.Day.{day}
 use Rattle.tc25.specs.declared.rate.Rate.{Rate}
 use Rattle.sets25.specs.SharedSet.{members_of, shared_members}
 use Rattle.sets25.specs.SharedDay.{SharesDay}
-use Rattle.sets25.specs.SpanList.{spans_of}
+use Rattle.sets25.specs.HeldSpans.{spans_held}
 use Rattle.sets25.specs.Spans.{is_covered}
 use Rattle.sets25.specs.Times.{BelowDay}
 use Rattle.sets25.specs.Working.TimesWhere.{times_where_below}
@@ -22,5 +22,5 @@ shared_below rate (Some base) same t there = rw same at (times_where_below base.
 
 pub shared_set_below : (s : SharedSet) (t : ℕ) → set.contains (members_of s) t ≡ true → t < day s.own.rate
 shared_set_below s t there =
-    let own = times_where_below s.own.rate (λ f. is_covered f (spans_of s.own.spans)) t in
+    let own = times_where_below s.own.rate (λ f. is_covered f (spans_held s.own.spans)) t in
     grind (arith, set.contains-union nat_cmp_total, shared_below s.own.rate s.base s.same_day t)

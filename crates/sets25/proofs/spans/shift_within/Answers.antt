@@ -1,5 +1,5 @@
 -- Spans that have moved are of the day still.
-use Rattle.sets25.proofs.Lemmas.{arith, common_steps, drop, length, rules, shifted_of_day, shifted_span, take, ◌≡◌}
+use Rattle.sets25.proofs.Lemmas.{arith, common_steps, drop, length, shifted_of_day, shifted_span, take, ◌≡◌}
 use Rattle.sets25.proofs.Words.{map, without_edge, ◌++◌}
 use Rattle.sets25.proofs.spans.shift_within.Goals as goal
 

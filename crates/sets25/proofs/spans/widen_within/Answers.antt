@@ -1,5 +1,5 @@
 -- Spans that have grown are of the day still.
-use Rattle.sets25.proofs.Lemmas.{arith, common_steps, rules, widened_of_day, ◌≡◌}
+use Rattle.sets25.proofs.Lemmas.{arith, common_steps, widened_of_day, ◌≡◌}
 use Rattle.sets25.proofs.Words.{joined, map, widened_span}
 use Rattle.sets25.proofs.spans.widen_within.Goals as goal
 

@@ -1,11 +1,11 @@
 -- The list with the frame is the set with the time, where it is one of the day.
-use Rattle.sets25.proofs.Lemmas.{arith, covered_with, nat_tests, of_day-added, on_ok_weaker, spans_of, with_time-insert, with_time-same}
+use Rattle.sets25.proofs.Lemmas.{arith, covered_with, of_day-added, on_ok_weaker, spans_held, with_time-insert, with_time-same}
 use Rattle.sets25.proofs.span_set.SpanSetTimeSet.add.Goals as goal
 
 pub invariant_of-self : goal.invariant_of-self
 invariant_of-self c = record {
   canonical = c.add.ensures.canonical;
-  of_day = of_day-added c.args.self.now.rate c.add.result c.args.time (spans_of c.args.self.now.spans) _ (omega arith) c.args.self.now.of_day
+  of_day = of_day-added c.args.self.now.rate c.add.result c.args.time (spans_held c.args.self.now.spans) _ (omega arith) c.args.self.now.of_day
       (rw c.frames-frame.ensures.value at c.add.ensures.ok) c.add.ensures.err;
 }
 

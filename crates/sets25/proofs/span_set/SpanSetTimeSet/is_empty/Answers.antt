@@ -1,5 +1,5 @@
-use Rattle.sets25.proofs.Lemmas.{is_empty_iff-spans, spans_of}
+use Rattle.sets25.proofs.Lemmas.{is_empty_iff-spans, spans_held}
 use Rattle.sets25.proofs.span_set.SpanSetTimeSet.is_empty.Goals as goal
 
 pub returns : goal.returns
-returns c = rw c.is_empty.ensures (is_empty_iff-spans c.args.self.now.rate (spans_of c.args.self.now.spans) c.args.self.now.canonical c.args.self.now.of_day)
+returns c = rw c.is_empty.ensures (is_empty_iff-spans c.args.self.now.rate (spans_held c.args.self.now.spans) c.args.self.now.canonical c.args.self.now.of_day)

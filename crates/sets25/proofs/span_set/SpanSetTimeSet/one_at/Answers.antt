@@ -9,4 +9,4 @@ pub returns-clause-members : goal.returns-clause-members
 returns-clause-members c =
     let is : just c.args.time ≡ just_of c.args.rate c.args.time = grind (arith, nat_tests) in
     times_where-just c.args.rate _ c.args.time (omega arith)
-    (λ f h. rw (c.from_spans.ensures, c.in_ok-from_slice.ensures.items, c.of.ensures, c.frames-frame.ensures.value) (grind (arith, nat_tests))) ∙ is
+    (λ f h. rw (c.one.ensures, c.of.ensures, c.frames-frame.ensures.value) (grind (arith, nat_tests))) ∙ is
