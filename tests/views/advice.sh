@@ -21,10 +21,12 @@ needs_make 'the advice on most drawn captures' || {
     mv "$work"/*-0.csv* "$captures"
     python3 -B bench/info/drawn.py "$captures" advice 0 1
 }
-# Replies that nothing makes a yes, and a time that no rate has; a capture that begins inside a reply, under a name that a shell takes for
+# Replies that nothing makes a yes, a time that no rate has, and one of another rate, where what came before is of this one; a capture that begins inside a reply, under a name that a shell takes for
 # something else; lists that a page cuts, and breaks.
 records "$remote C 61 20 11 92 D 71 20 3F D0" > "$captures/no-mode.csv"
 records 'C 44 14 30 00 00 00 88' > "$captures/frame-30.csv"
+shifted='C 44 14 24 00 00 00 7C D 10 01 11 C 40 18 58 D 10 01 11 C 60 10 70 D 74 10 00 01 00 00 85'
+records "$remote $shifted C 44 14 29 00 00 00 81" > "$captures/frame-29.csv"
 records "D 10 01 11 $play" > "$captures/a night's.csv"
 records "$play" 250 > "$captures/plays.csv"
 records "$play +298000" 310 > "$captures/slow-plays.csv"

@@ -1,4 +1,9 @@
 //! What a capture says of itself, as it is read.
+ghost use Rattle.std.specs.Prelude.{◌≡◌, IfErr, IfOk, IfSome, IsTrue, None, Some};
+ghost use Rattle.capture9.specs.Error.{is_of_text};
+ghost use Rattle.capture9.specs.Fields.{greatest_limit};
+ghost use Rattle.capture9.specs.declared.records.Standing.TheVariants.{Reading};
+ghost use Rattle.info9.specs.Reading.{ReadsAll};
 
 use crate::facts::put_facts;
 use crate::signs::Signs;
@@ -13,15 +18,17 @@ use tc25::Rate;
 /// at the rate, and where judging begins with the first command nothing is said of how the capture begins. All is written at the end,
 /// and the writer is not flushed.
 ///
-/// A bad row and a reader that fails are `Capture`, a writer that fails `Write`, and want of memory `OutOfMemory`, as for the reports.
-/// Nothing was written where it is not `Write`.
+/// It is `Ok` only where each row can be read. A bad row and a reader that fails are `Capture`, a writer that fails `Write`, and want of
+/// memory `OutOfMemory`, as for the reports. Nothing was written where it is not `Write`.
 pub fn write_info<R: Read + Drop, W: Write>(
     alloc: Global,
     reader: R,
     writer: &mut W,
     rate: Rate,
     beginning: Beginning,
-) -> Result<(), JudgeError> {
+) -> Result<(), JudgeError>
+    ensures { ReadsAll (R.remaining reader) result }
+{
     let mut signs = Signs::new(rate, beginning);
     let mut records = Records::new(alloc, reader, GREATEST_LIMIT);
     take_all(&mut signs, &mut records)?;
@@ -31,15 +38,15 @@ pub fn write_info<R: Read + Drop, W: Write>(
 }
 
 /// Takes all records of a capture.
-fn take_all<R: Read + Drop>(
-    signs: &mut Signs,
-    records: &mut Records<R>,
-) -> Result<(), CaptureError> {
-    for _ in 0..u32::MAX {
-        match records.next()? {
-            Some(record) => signs.take(&record),
-            None => break,
-        }
+fn take_all<R: Read + Drop>(signs: &mut Signs, records: &mut Records<R>) -> Result<(), CaptureError>
+    requires reading { records.old.standing ≡ Reading }
+    requires limit { records.old.most_rows ≡ greatest_limit }
+    requires none_given { records.old.given ≡ 0 }
+    ensures all { IfOk result (λ _. IfSome records.old.rows (λ rows. rows.fault ≡ None)) }
+    ensures refused { IfErr result (λ e. IfSome records.old.rows (λ rows. IsTrue (is_of_text e.kind) → rows.fault ≡ Some e)) }
+{
+    while let Some(record) = records.next()? {
+        signs.take(&record);
     }
     Ok(())
 }

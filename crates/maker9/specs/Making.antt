@@ -10,6 +10,7 @@ use Rattle.report9.specs.declared.verdict.Extent.{Extent}
 use Rattle.report9.specs.declared.verdict.Extent.TheVariants.{FirstBreak, WholeCapture}
 use Rattle.report9.specs.declared.verdict.Scope.{Scope}
 use Rattle.report9.specs.declared.verdict.Verdict.{Verdict}
+use Rattle.info9.specs.Reading.{ReadsAll}
 use Rattle.judge9.specs.Judging.{Answers}
 use Rattle.seen9.specs.declared.drawn.Drawn.{Drawn}
 use Rattle.seen9.specs.declared.drawn.Drawn.TheVariants.{Nothing, Picture as APicture}
@@ -44,9 +45,9 @@ EndsJsonRun job capture end now = EndsAs (λ judged all. Answers job.asked.begin
 abbrev pub EndsRewritten : Outcome → Type 0
 EndsRewritten end = (result : Result Unit ClockFault) × (end ≡ outcome_rewritten result)
 
--- what a capture says of itself was told
-abbrev pub EndsInfo : Outcome → Type 0
-EndsInfo end = (result : Result Unit JudgeError) × (end ≡ outcome_told result)
+-- what a capture says of itself was told: its rows were all read, or not; what is said of them is tested
+abbrev pub EndsInfo : Option (List ℕ) → Outcome → Option (List ℕ) → Type 0
+EndsInfo capture end now = EndsAs (λ told all. ReadsAll capture told) outcome_told end now
 
 -- of a picture the judging of this text ended as `check` does with these words; it is told that nothing breaks only where that is a yes, and
 -- where the words name a record that breaks nothing, nothing is said here
@@ -95,7 +96,7 @@ makes (Motion extent) job capture old end now = EndsMade (scope_for extent job) 
 makes (Json view extent) job capture old end now = EndsMade (scope_for extent job) job capture end now
 makes JsonRun job capture old end now = EndsJsonRun job capture end now
 makes (Clock form) job capture old end now = EndsRewritten end
-makes Info job capture old end now = EndsInfo end
+makes Info job capture old end now = EndsInfo capture end now
 makes (Try extent) job capture old end now = EndsAs (TellsAnswers (scope_for extent job) job.profile capture old) outcome_kept end now
 makes Touches job capture old end now = EndsMade (scope_for FirstBreak job) job capture end now
 makes (Picture extent) job capture old end now = EndsDrawn (scope_for extent job) job capture end

@@ -1,6 +1,7 @@
 //! What is made of a capture's events, or of a text, beside the reports.
 ghost use Rattle.std.specs.Prelude.{◌≡◌, ℕ, IfOk, List, Ok, Some};
 ghost use Rattle.deck9.specs.declared.profile.Profile.{Profile as AProfile};
+ghost use Rattle.info9.specs.Reading.{ReadsAll};
 ghost use Rattle.judge9.specs.Judging.{Answers};
 ghost use Rattle.maker9.specs.Making.{IsDrawn, IsDrawnOf, scope_for};
 ghost use Rattle.report9.specs.declared.verdict.Extent.TheVariants as AnExtent;
@@ -138,7 +139,9 @@ pub(crate) fn tell_info<R: Read + Drop, W: Write>(
     reader: R,
     writer: &mut W,
     job: &Job,
-) -> Result<(), JudgeError> {
+) -> Result<(), JudgeError>
+    ensures { ReadsAll (R.remaining reader) result }
+{
     write_info(alloc, reader, writer, job.profile.rate, job.asked.beginning)
 }
 
