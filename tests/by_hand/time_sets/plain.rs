@@ -1,6 +1,6 @@
 //! The same drawn calls on a plain `Vec<(u32, u32)>` of first and last frames.
 
-#[path = "../../../bench/time_sets/rust/spans.rs"]
+#[path = "../../../bench/lib/spans.rs"]
 mod spans;
 
 use spans::{DAY, Spans};
