@@ -8,7 +8,6 @@
 #   web/build.sh stands    ends with status 0 where it is there, and is made from all as it stands now
 set -euo pipefail
 cd "$(dirname "$0")/.."
-top=$PWD
 work=out/web
 program=crates/ninecheck/out/ninecheck
 
@@ -91,7 +90,7 @@ link() {
         --gc-sections --fatal-warnings --strip-all "$work/program.o" "${objects[@]}" -o "$work/wasm64.wasm"
     python3 web/untable.py "$work/wasm64.wasm"
     wasm-opt --enable-memory64 --enable-bulk-memory --enable-sign-ext --enable-nontrapping-float-to-int --enable-mutable-globals \
-        --memory64-lowering "$work/wasm64.wasm" -o "$work/ninecheck.wasm"
+        --memory64-lowering -O1 "$work/wasm64.wasm" -o "$work/ninecheck.wasm"
     # An engine looks at the whole of it as it loads it.
     node -e 'new WebAssembly.Module(require("fs").readFileSync(process.argv[1]))' "$work/ninecheck.wasm"
 }

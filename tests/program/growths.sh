@@ -79,18 +79,18 @@ try_blocks 1 why "$moved"
 try_blocks 0 'why --hands' "$moved"
 
 # Two parts that break, and a third with replies that contradict one another: what was written of whole parts stands. The last
-# growth is for what the deck could be after the third break, so all three have their lines then: three, three and five.
+# growth is for what is said of the third, so the first two have their lines then: three and three.
 for verb in check explain why; do
-    [ $verb != why ] || lines=11
+    [ $verb != why ] || lines=6
     try_blocks 1 "$verb --all" "$play D 10 $play D 10 $moved"
     lines=
 done
 
-# A late reply, one that has a wrong group besides, and a part with replies that contradict one another. The last growth comes after
-# that break too, so why has three lines then, six, and five.
+# A late reply, one that has a wrong group besides, and a part with replies that contradict one another. The last growth is for what is
+# said of that, so why has three lines then, and six.
 late="C 20 01 21 +9400 $ack C 20 01 21 +9400 D 20 01 21"
 for verb in check explain why; do
-    [ $verb != why ] || lines=14
+    [ $verb != why ] || lines=9
     try_blocks 1 "$verb --all" "$late $moved"
     lines=
 done
