@@ -1,6 +1,6 @@
 #!/usr/bin/env bash
 # Has `rattle build` prove the program once more over its libraries as they were built, and make a file of it: by the kit's own clang its
-# object, which the program is linked of. It takes about a minute.
+# object, which the program is linked of. It takes about a minute behind `make`, and four behind the gate, which keeps no steps of the proof.
 #
 #   make/build_again.sh FILE LOG [TOOLCHAIN]   TOOLCHAIN: a folder as the kit's own, with another clang. What rattle says is in LOG
 set -euo pipefail

@@ -29,7 +29,7 @@ mkdir -p out/static
 rm -f "$linked" "$linked.made-from"
 
 if [ ! -f "$made.o" ]; then
-    echo 'the object of the built program is made: about a minute'
+    echo 'the object of the built program is made: some minutes'
     make/build_again.sh out/static/object.o out/static/object.log || give_up 'its object was not made: what stands above says why'
     mv out/static/object.o "$made.o"
 fi

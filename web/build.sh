@@ -96,7 +96,7 @@ link() {
 }
 
 mkdir -p "$work"
-step "$work/module.bc" 'the module of the proved program is made: about a minute' lower "$program" web/hand_on.sh make/build_again.sh
+step "$work/module.bc" 'the module of the proved program is made: some minutes' lower "$program" web/hand_on.sh make/build_again.sh
 step "$work/program.o" 'it is compiled for WebAssembly: about two minutes' compile "$work/module.bc" web/retarget.py
 step "$work/ninecheck.wasm" 'it is linked' link "$work/program.o" web/*.c web/integers.h web/untable.py
 

@@ -113,7 +113,7 @@ lacks 'a compiler' '`gcc` is missing: it is in the package of that name'
 (cd "$copy" && make/static.sh) > "$work/out" 2> "$work/said"
 status=$?
 tail -n 1 "$work/said" > "$work/err"
-expect 'without the libraries' 1 'the object of the built program is made: about a minute' \
+expect 'without the libraries' 1 'the object of the built program is made: some minutes' \
     'the program is not linked statically: its object was not made: what stands above says why'
 
 tell_counts
